@@ -27,7 +27,9 @@ use Rattle.o2_world.specs.CallParts.{Before, argument, has_arguments, may_write}
 use Rattle.o2_world.specs.Run.{before}
 use Rattle.o2_world.proofs.MapLemmas.{if_yes, if_no}
 use Rattle.o2_world.proofs.Numbers.{number_some, at_place_of, not_zero}
-use Rattle.o2_alone.specs.Renaming.{Renaming, renamed_hold, renamed_held, IsIn, IsRenamedView, IsRenamedKnown, IsRenamed, IsRenamedResult, IsAskedAlike, IsRunAlike, IsRuledAlike, AreNumberedAlike, asks_for_members_of, asks_for_room, asks_for_run, comes_to_room, is_full_for, new_segments, resized_run, run_segments, call_of, called_by, is_full}
+use Rattle.o2_alone.specs.Renaming.{Renaming, renamed_hold, renamed_held, IsIn, IsRenamedView, IsRenamedKnown, IsRenamed, IsRenamedResult, IsAskedAlike, IsRunAlike}
+use Rattle.o2_alone.specs.Renaming.{IsRuledAlike, AreNumberedAlike, asks_for_members_of, asks_for_room, asks_for_run, comes_to_room, is_full_for, new_segments}
+use Rattle.o2_alone.specs.Renaming.{resized_run, run_segments, call_of, called_by, is_full}
 use Rattle.o2_alone.specs.Keeping.{lacks_members, lacks_room, meets, reaches_shared}
 use Rattle.o2_alone.specs.Isolation.{IsLike}
 use Rattle.o2_alone.proofs.RenamedViews.{bound_renamed, bound_is_in, stepped_renamed}

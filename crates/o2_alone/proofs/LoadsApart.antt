@@ -17,7 +17,9 @@ use Rattle.o2_world.specs.CallParts.{Before, Effect}
 use Rattle.o2_world.specs.Changes.{Change, Makes, Resizes, Locks, Marks, Holds, Drops, Finishes, Reserves, Frees, Names, fewer, more, resized, swept, takes, with_change, with_changes}
 use Rattle.o2_world.specs.Rulings.{Ruling, by_load, full_size, held_as_code, held_under, in_use, indexes, is_in_run, members, region_by}
 use Rattle.o2_world.specs.SharedRulings.{marks_under, shared_from}
-use Rattle.o2_world.specs.HugeRulings.{all_bytes, all_dropped, all_hold, bytes_of, dropped_members, flags_in, free_run, held_in_run, huge_allocation, huge_at, huge_reallocation, huge_reallocation_of, is_first, is_huge_fault, is_unheld, left_in_run, new_members, other_shares, resized_members, resized_one, run_changes, run_resized, segments_of, sizes_of}
+use Rattle.o2_world.specs.HugeRulings.{all_bytes, all_dropped, all_hold, bytes_of, dropped_members, flags_in, free_run, held_in_run, huge_allocation, huge_at}
+use Rattle.o2_world.specs.HugeRulings.{huge_reallocation, huge_reallocation_of, is_first, is_huge_fault, is_unheld, left_in_run, new_members, other_shares}
+use Rattle.o2_world.specs.HugeRulings.{resized_members, resized_one, run_changes, run_resized, segments_of, sizes_of}
 use Rattle.o2_world.specs.Effect.{effect}
 use Rattle.o2_world.specs.Run.{all_changes, before, changed, worked, working}
 use Rattle.o2_world.specs.Moves.{AllMoves, AreOfRuling, Each, IsShared, Moves, NoneMoves, OfAllocation, OfNone, OfReallocation, OneAliased, OneLocked, OneMade, OneNamed, OneRun, OneSized, OwnMoves, SomeFreed, SomeShared}

@@ -16,7 +16,9 @@ use Rattle.o2_world.specs.Rulings.{by_load}
 use Rattle.o2_world.specs.Holders.{is_held}
 use Rattle.o2_world.specs.Known.{held_at, lives_at}
 use Rattle.o2_world.specs.Sound.{HasGoodRegisters, NamesHeld, has_rights, held_in, held_of}
-use Rattle.o2_world.specs.Starts.{Loaded, Start, Holding, Built, holdings, nothing_built, segment_of, named, holds_as, name_in, with_holding, with_holdings, first_process, start_check, with_started, within_names, where_checked, started_as, next_started, all_started, for_the_run, world_of, where_started, opening_of}
+use Rattle.o2_world.specs.Starts.{Loaded, Start, Holding, Built, holdings, nothing_built, segment_of, named, holds_as, name_in, with_holding, with_holdings}
+use Rattle.o2_world.specs.Starts.{first_process, start_check, with_started, within_names, where_checked, started_as, next_started, all_started, for_the_run, world_of}
+use Rattle.o2_world.specs.Starts.{where_started, opening_of}
 use Rattle.o2_world.specs.Tied.{AreLive, AreUsed, IsSound, IsTied}
 use Rattle.o2_world.proofs.OpeningLoads.{opening_loads}
 use Rattle.o2_world.proofs.Keeps.{held_found, some_is}

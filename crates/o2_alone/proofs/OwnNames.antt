@@ -18,13 +18,17 @@ use Rattle.o2_world.specs.World.{ByAlias, ByCall, Cause, Held, is_live}
 use Rattle.o2_world.specs.Changes.{Change, Makes, Resizes, Locks, Marks, Holds, Drops, Finishes, Reserves, Frees, Names}
 use Rattle.o2_world.specs.Known.{Marks as SegmentMarks}
 use Rattle.o2_world.specs.CallParts.{Before, Effect, argument, has_arguments, may_write}
-use Rattle.o2_world.specs.Rulings.{Ruling, refusal, held_under, free_index, allocation, allocation_at, held_by_call, region_by, is_alias, is_in_run, full_size, reallocation_of, reallocation_with, keeps_its_size, members, indexes, is_later, in_use, by_load, freeing_of, sizing, sizing_of, sizing_with, is_discardable, locking_of, locking_with, unlocking_of, unlocking_with, aliasing, aliasing_of, aliasing_at}
+use Rattle.o2_world.specs.Rulings.{Ruling, refusal, held_under, free_index, allocation, allocation_at, held_by_call, region_by, is_alias, is_in_run, full_size}
+use Rattle.o2_world.specs.Rulings.{reallocation_of, reallocation_with, keeps_its_size, members, indexes, is_later, in_use, by_load, freeing_of, sizing, sizing_of}
+use Rattle.o2_world.specs.Rulings.{sizing_with, is_discardable, locking_of, locking_with, unlocking_of, unlocking_with, aliasing, aliasing_of, aliasing_at}
 use Rattle.o2_world.specs.SegmentCalls.{ruled_at, Written, written_word, written_long, alloc_args, dos_alloc_seg, dos_realloc_seg, dos_free_seg, dos_size_seg, dos_lock_seg, dos_unlock_seg, dos_create_cs_alias, on_segments}
 use Rattle.o2_world.specs.Calls.{dos_exit, dos_get_pid, dos_mem_avail, dos_read, dos_write, served_by, row_of}
 use Rattle.o2_world.specs.Effect.{has_trap_flag, answered, single_stepped, effect}
 use Rattle.o2_world.proofs.Quiet.{exit_quiet, read_quiet, told_quiet, write_quiet}
 use Rattle.o2_world.specs.SharedRulings.{marks_under, shared_from}
-use Rattle.o2_world.specs.HugeRulings.{all_bytes, all_dropped, bytes_of, dropped_members, flags_in, free_run, held_in_run, huge_allocation, huge_at, huge_reallocation_of, huge_shift, is_first, is_huge_fault, left_in_run, new_members, other_shares, resized_members, resized_one, run_changes, run_resized, segments_of, sizes_of}
+use Rattle.o2_world.specs.HugeRulings.{all_bytes, all_dropped, bytes_of, dropped_members, flags_in, free_run, held_in_run, huge_allocation, huge_at, huge_reallocation_of}
+use Rattle.o2_world.specs.HugeRulings.{huge_shift, is_first, is_huge_fault, left_in_run, new_members, other_shares, resized_members, resized_one, run_changes}
+use Rattle.o2_world.specs.HugeRulings.{run_resized, segments_of, sizes_of}
 use Rattle.o2_world.specs.HugeCalls.{dos_alloc_huge, dos_get_huge_shift, dos_realloc_huge, huge_args, on_runs}
 use Rattle.o2_world.specs.Moves.{Each}
 use Rattle.o2_world.proofs.SegmentMoves.{held_there, indexes_from, region_is}

@@ -28,7 +28,9 @@ use Rattle.o2_world.specs.Rulings.{Ruling, dropped_indexes, freeing, freeing_cpu
 use Rattle.o2_world.specs.HugeRulings.{huge_reallocation, huge_shift, is_huge_fault, segments_of, without}
 use Rattle.o2_world.specs.HugeCalls.{allocated_huge, dos_alloc_huge, dos_get_huge_shift, dos_realloc_huge, huge_args, on_runs, reallocated_huge, shift_told}
 use Rattle.o2_world.proofs.SegmentMoves.{held_there}
-use Rattle.o2_world.specs.SegmentCalls.{back, ruled, ruled_at, Written, written_word, written_long, alloc_args, allocated, dos_alloc_seg, reallocated, dos_realloc_seg, freed, dos_free_seg, sized, dos_size_seg, locked, dos_lock_seg, unlocked, dos_unlock_seg, aliased, dos_create_cs_alias, on_segments}
+use Rattle.o2_world.specs.SegmentCalls.{back, ruled, ruled_at, Written, written_word, written_long, alloc_args, allocated, dos_alloc_seg, reallocated, dos_realloc_seg}
+use Rattle.o2_world.specs.SegmentCalls.{freed, dos_free_seg, sized, dos_size_seg, locked, dos_lock_seg, unlocked, dos_unlock_seg, aliased, dos_create_cs_alias}
+use Rattle.o2_world.specs.SegmentCalls.{on_segments}
 use Rattle.o2_world.specs.Calls.{transfer_of, not_transferred, is_console, may_give, gives, written, dos_write, dos_exit, told_at, told, pid_bytes, dos_mem_avail, may_take, read_with, read_from, dos_read, served_by}
 use Rattle.o2_alone.specs.Renaming.{Renaming, renamed_hold, renamed_changes, renamed_ruling, IsIn, SameBytes, IsRenamedView, IsRenamedKnown, IsRenamedEffect, AllocatesAlike, IsAskedAlike, IsRunAlike, MakesAlike, ResizesAlike, asks_for_room, asks_for_run, comes_to_room}
 use Rattle.o2_alone.proofs.RenamedViews.{same_test, bound_renamed, bound_is_in, read_renamed, probe_renamed}

@@ -11,7 +11,10 @@ use Rattle.o2_isa.specs.View.{is_local, is_writable}
 use Rattle.o2_world.specs.World.{Held, Line}
 use Rattle.o2_world.specs.Changes.{Change, Makes, Resizes, Locks, Marks, Holds, Drops, Finishes, Reserves, Frees, Names, hold_lines_of, drop_lines_of, in_order, moved_lines}
 use Rattle.o2_world.specs.Known.{Known, Marks as SegmentMarks}
-use Rattle.o2_world.specs.Rulings.{Ruling, refusal, grants, held_under, free_index, allocation, allocation_at, region_by, made_segment, held_by_call, is_alias, is_in_run, full_size, reallocation, reallocation_of, reallocation_with, keeps_its_size, members, indexes, is_later, is_index, in_use, by_load, is_last, freed_cpu, freeing, freeing_of, freeing_with, dropped_by, dropped_indexes, freeing_cpu, sizing, sizing_of, sizing_with, is_discardable, locking, locking_of, locking_with, unlocking, unlocking_of, unlocking_with, aliasing, aliasing_of, aliasing_at}
+use Rattle.o2_world.specs.Rulings.{Ruling, refusal, grants, held_under, free_index, allocation, allocation_at, region_by, made_segment, held_by_call, is_alias, is_in_run}
+use Rattle.o2_world.specs.Rulings.{full_size, reallocation, reallocation_of, reallocation_with, keeps_its_size, members, indexes, is_later, is_index, in_use, by_load}
+use Rattle.o2_world.specs.Rulings.{is_last, freed_cpu, freeing, freeing_of, freeing_with, dropped_by, dropped_indexes, freeing_cpu, sizing, sizing_of, sizing_with}
+use Rattle.o2_world.specs.Rulings.{is_discardable, locking, locking_of, locking_with, unlocking, unlocking_of, unlocking_with, aliasing, aliasing_of, aliasing_at}
 use Rattle.o2_alone.specs.Renaming.{Renaming, renamed_held, renamed_change, renamed_changes, renamed_ruling, is_full, IsRenamedKnown}
 
 -- Changes. Neither the lines nor the indexes that they tell have numbers of names.

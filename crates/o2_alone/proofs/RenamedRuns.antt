@@ -11,7 +11,9 @@ use Rattle.o2_world.specs.Changes.{Change, Holds, Makes, Reserves, Resizes}
 use Rattle.o2_world.specs.Known.{Known, Marks as SegmentMarks}
 use Rattle.o2_world.specs.Rulings.{full_size, grants, held_under, in_use, indexes, is_in_run, made_segment, members, refusal, region_by}
 use Rattle.o2_world.specs.SharedRulings.{holder, marks_under, shared_from}
-use Rattle.o2_world.specs.HugeRulings.{all_bytes, all_dropped, all_hold, bytes_of, dropped_members, flags_in, free_run, held_in_run, huge_allocation, huge_at, huge_reallocation, huge_reallocation_of, is_first, is_huge_fault, is_unheld, left_in_run, new_members, other_shares, resized_members, resized_one, run_changes, run_reserve, run_resized, segments_of, share_of, size_in, sizes_of}
+use Rattle.o2_world.specs.HugeRulings.{all_bytes, all_dropped, all_hold, bytes_of, dropped_members, flags_in, free_run, held_in_run, huge_allocation, huge_at}
+use Rattle.o2_world.specs.HugeRulings.{huge_reallocation, huge_reallocation_of, is_first, is_huge_fault, is_unheld, left_in_run, new_members, other_shares}
+use Rattle.o2_world.specs.HugeRulings.{resized_members, resized_one, run_changes, run_reserve, run_resized, segments_of, share_of, size_in, sizes_of}
 use Rattle.o2_alone.specs.Renaming.{AreNumberedAlike, IsRenamedKnown, Renaming, comes_to_room, is_full_for, is_shared_run, renamed_changes, renamed_held, renamed_ruling}
 use Rattle.o2_alone.proofs.RenamedRulings.{either, is_some_renamed, members_renamed, under_renamed}
 use Rattle.o2_alone.proofs.Twins.{renamed_append}
@@ -267,5 +269,11 @@ module _ (f : Renaming) (n : ℕ) (k o : Known) (same : IsRenamedKnown f n k o) 
 -- a DosReallocHuge comes to the question of room in both
 pub comes_renamed : (f : Renaming) (n : ℕ) (k o : Known) → IsRenamedKnown f n k o → (segs part i : ℕ) (c : Cpu) (h : Held) → comes_to_room o n i segs part c (renamed_held f h) ≡ comes_to_room k n i segs part c h
 comes_renamed f n k o same segs part i c h =
-    ap (λ (is : List ℕ). is_first i h && (not (segments_of segs part == 0) && (not (nat_lt h.reserved (segments_of segs part)) && not ((nat_le shared_from h.first && nat_lt (bytes_of segs part) (all_bytes o n is)) || in_use c (drop (segments_of segs part) is))))) (members_renamed f n k o same i h)
-    ∙ ap (λ (x : ℕ). is_first i h && (not (segments_of segs part == 0) && (not (nat_lt h.reserved (segments_of segs part)) && not ((nat_le shared_from h.first && nat_lt (bytes_of segs part) x) || in_use c (drop (segments_of segs part) (members k n i h)))))) (bytes_renamed f n k o same (members k n i h))
+    ap (λ (is : List ℕ). is_first i h && (not (segments_of segs part == 0)
+    && (not (nat_lt h.reserved (segments_of segs part))
+    && not ((nat_le shared_from h.first && nat_lt (bytes_of segs part) (all_bytes o n is))
+    || in_use c (drop (segments_of segs part) is))))) (members_renamed f n k o same i h)
+    ∙ ap (λ (x : ℕ). is_first i h && (not (segments_of segs part == 0)
+    && (not (nat_lt h.reserved (segments_of segs part))
+    && not ((nat_le shared_from h.first && nat_lt (bytes_of segs part) x)
+    || in_use c (drop (segments_of segs part) (members k n i h)))))) (bytes_renamed f n k o same (members k n i h))

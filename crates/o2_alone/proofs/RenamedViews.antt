@@ -13,7 +13,9 @@ use Rattle.o2_isa.specs.declared.cpu.Loaded.{Loaded}
 use Rattle.o2_isa.specs.declared.cpu.Loaded.TheVariants as loaded
 use Rattle.o2_isa.specs.declared.cpu.Stop.{Stop}
 use Rattle.o2_isa.specs.Reading.{decoded}
-use Rattle.o2_isa.specs.View.{View, Hold, Registers, in_register, with_register, is_readable, is_writable, is_code, is_null, is_local, found, found_in, bound_in, gate_at, reached, read_name, read_of, room_of, probe_of, size_at, rights_at, rights_or_gate, when, here, refused, trap_of, through_gate, called, bind, poke, poke_hold, with_bytes, put_at, value_at, width_len, outside, hold_bytes, fetched}
+use Rattle.o2_isa.specs.View.{View, Hold, Registers, in_register, with_register, is_readable, is_writable, is_code, is_null, is_local, found, found_in, bound_in, gate_at}
+use Rattle.o2_isa.specs.View.{reached, read_name, read_of, room_of, probe_of, size_at, rights_at, rights_or_gate, when, here, refused, trap_of, through_gate, called}
+use Rattle.o2_isa.specs.View.{bind, poke, poke_hold, with_bytes, put_at, value_at, width_len, outside, hold_bytes, fetched}
 use Rattle.o2_isa.specs.Steps.{State, state, Steps, Stops, Ends, Reads, Room, Loads, Sizes, Rights, Change, Bind, Write, Copy, changed, word_there, value_or_zero, or_trap, passed, selector, run, ◌>>=◌}
 use Rattle.o2_isa.specs.Step.{steps_at, step_steps, stepped}
 use Rattle.o2_alone.specs.Renaming.{Renaming, renamed_hold, IsIn, KeepsApart, SameBytes, IsRenamedView, IsRenamedResult}

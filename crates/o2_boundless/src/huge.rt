@@ -1,7 +1,10 @@
 // What the calls on huge allocations come to: error number, value and changes.
 ghost use Rattle.std.specs.Prelude.{◌≡◌, ◌≤◌, ◌<◌, ◌+◌, ◌==◌, ◌&&◌, ◌++◌, ◌∷◌, [], IfOk, IfSome, drop, if◌then◌else◌, nat_le, nat_lt};
 ghost use Rattle.std.specs.Option.{option_copied};
-ghost use Rattle.o2_world.specs.HugeRulings.{all_bytes, all_dropped, all_hold, bytes_of, dropped_members, flags_in, held_in_run, huge_allocation, huge_at, huge_reallocation, huge_reallocation_of, is_first, is_huge_fault, is_unheld, left_in_run, names_one, new_members, other_shares, resized_members, resized_one, run_changes, run_reserve, run_resized, segments_of, share_of, size_in, sizes_of, without};
+ghost use Rattle.o2_world.specs.HugeRulings.{all_bytes, all_dropped, all_hold, bytes_of, dropped_members, flags_in, held_in_run, huge_allocation, huge_at};
+ghost use Rattle.o2_world.specs.HugeRulings.{huge_reallocation, huge_reallocation_of, is_first, is_huge_fault, is_unheld, left_in_run, names_one, new_members};
+ghost use Rattle.o2_world.specs.HugeRulings.{other_shares, resized_members, resized_one, run_changes, run_reserve, run_resized, segments_of, share_of, size_in, sizes_of};
+ghost use Rattle.o2_world.specs.HugeRulings.{without};
 ghost use Rattle.o2_world.specs.Rulings.{indexes};
 ghost use Rattle.o2_world.specs.SharedRulings.{marks_under, shared_from};
 ghost use Rattle.o2_boundless.specs.Edits.{changes_of};

@@ -41,7 +41,9 @@ room_reaches v o r k w h =
     let d = chosen_ok (nat_le (k + width_len w) (length (v.bytes o.name))) (Ok o.name) (outside r) c.1 in
     leb-true _ _ d.0
 
-pub room_of_grant : (nm : GName) (p : Plain) (pid : ℕ) (h : Holds) (g : Grant) (r : Sreg) (k : ℕ) (w : Width) → Some (hold_of g) ≡ in_register (registers_of h) r → IsOk (room_of (bus_view nm p pid h) r k w) → k + width_len w ≤ length (segment_bytes (slice_get p.segments.items g.name))
+pub room_of_grant : (nm : GName) (p : Plain) (pid : ℕ) (h : Holds) (g : Grant) (r : Sreg) (k : ℕ) (w : Width) → Some (hold_of g)
+    ≡ in_register (registers_of h) r → IsOk (room_of (bus_view nm p pid h) r k w)
+    → k + width_len w ≤ length (segment_bytes (slice_get p.segments.items g.name))
 unfolding room_of bus_view bytes_in
 room_of_grant nm p pid h g r k w e room =
     room_reaches (bus_view nm p pid h) (hold_of g) r k w (subst (λ (o : Option Hold). IsOk (reached o is_writable (bus_view nm p pid h) r k w)) (sym e) room)

@@ -1,5 +1,6 @@
 -- What is noted of calls that change one index, or make a run, or change nothing that is held.
-use Rattle.std.proofs.Common.{◌≡◌, ℕ, ◌+◌, ◌-◌, ◌/◌, ◌<◌, ◌≤◌, ◌==◌, ◌||◌, nat_le, nat_lt, not, Bool, true, false, cond, List, [], ◌∷◌, ◌++◌, length, max, min, if◌then◌else◌, Option, Some, None, is_some, refl, sym, ap, ◌∙◌, subst, arith, append-nil}
+use Rattle.std.proofs.Common.{◌≡◌, ℕ, ◌+◌, ◌-◌, ◌/◌, ◌<◌, ◌≤◌, ◌==◌, ◌||◌, nat_le, nat_lt, not, Bool, true, false, cond, List, [], ◌∷◌, ◌++◌, length, max, min}
+use Rattle.std.proofs.Common.{if◌then◌else◌, Option, Some, None, is_some, refl, sym, ap, ◌∙◌, subst, arith, append-nil}
 use Rattle.std.specs.Prelude.{find, flat_map}
 use Rattle.std.proofs.lemmas.Grind.{flat_map-append}
 use Rattle.o2_base.specs.Selectors.{selector_of}
@@ -9,7 +10,9 @@ use Rattle.o2_desc.proofs.Choices.{chosen_law}
 use Rattle.o2_world.specs.Changes.{Change, Locks, Reserves, drop_lines_of, hold_lines_of}
 use Rattle.o2_world.specs.HugeRulings.{free_run, huge_allocation, huge_at, huge_shift, is_huge_fault, new_members, run_reserve, segments_of, sizes_of}
 use Rattle.o2_world.specs.Known.{Known, Marks}
-use Rattle.o2_world.specs.Rulings.{Ruling, aliasing_at, aliasing_of, allocation, allocation_at, free_index, grants, indexes, is_alias, is_discardable, is_in_run, keeps_its_size, locking_of, locking_with, reallocation_of, reallocation_with, refusal, region_by, sizing_of, sizing_with, unlocking_of, unlocking_with}
+use Rattle.o2_world.specs.Rulings.{Ruling, aliasing_at, aliasing_of, allocation, allocation_at, free_index, grants, indexes, is_alias, is_discardable, is_in_run}
+use Rattle.o2_world.specs.Rulings.{keeps_its_size, locking_of, locking_with, reallocation_of, reallocation_with, refusal, region_by, sizing_of, sizing_with, unlocking_of}
+use Rattle.o2_world.specs.Rulings.{unlocking_with}
 use Rattle.o2_world.specs.SharedRulings.{each_more, holder, index_of, is_share, held_by, naming, naming_at, sharing, sharing_at, sharing_from, sharing_of}
 use Rattle.o2_world.specs.World.{Held}
 use Rattle.o2_gate.specs.declared.moves.Block.{Block}

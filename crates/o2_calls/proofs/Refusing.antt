@@ -7,7 +7,9 @@ use Rattle.o2_desc.specs.Bits.{is_writable}
 use Rattle.o2_world.specs.World.{Held}
 use Rattle.o2_world.specs.HugeRulings.{all_bytes, bytes_of, free_run, huge_allocation, huge_at, huge_reallocation_of, is_first, is_huge_fault, left_in_run, run_resized, segments_of}
 use Rattle.o2_world.specs.Known.{Known, Marks}
-use Rattle.o2_world.specs.Rulings.{Ruling, aliasing_at, aliasing_of, allocation, allocation_at, by_load, free_index, freeing_of, full_size, held_under, in_use, is_alias, is_discardable, is_in_run, is_later, keeps_its_size, locking_of, locking_with, members, reallocation_of, reallocation_with, region_by, sizing_of, sizing_with, unlocking_of, unlocking_with}
+use Rattle.o2_world.specs.Rulings.{Ruling, aliasing_at, aliasing_of, allocation, allocation_at, by_load, free_index, freeing_of, full_size, held_under, in_use, is_alias}
+use Rattle.o2_world.specs.Rulings.{is_discardable, is_in_run, is_later, keeps_its_size, locking_of, locking_with, members, reallocation_of, reallocation_with, region_by}
+use Rattle.o2_world.specs.Rulings.{sizing_of, sizing_with, unlocking_of, unlocking_with}
 use Rattle.o2_world.specs.SharedNames.{name_by}
 use Rattle.o2_world.specs.SharedRulings.{getting_at, getting_from, giving_of, holder, index_of, lacks_flag, naming, naming_at, shared_from, sharing, sharing_at, sharing_from, sharing_of}
 use Rattle.o2_gate.specs.declared.gathering.SegmentArguments.{SegmentArguments}

@@ -1,11 +1,14 @@
 -- Calls on huge allocations come to the same by what is known of a machine as by what is known of its world, and what they change.
-use Rattle.std.proofs.Common.{◌≡◌, ◌⊎◌, inl, inr, ◌++◌, ℕ, ◌+◌, ◌-◌, ◌/◌, ◌%◌, ◌==◌, ◌&&◌, ◌||◌, nat_le, nat_lt, Bool, true, false, cond, List, [], ◌∷◌, length, drop, max, Option, Some, None, if◌then◌else◌, ap, sym, ◌∙◌, refl, subst, arith}
+use Rattle.std.proofs.Common.{◌≡◌, ◌⊎◌, inl, inr, ◌++◌, ℕ, ◌+◌, ◌-◌, ◌/◌, ◌%◌, ◌==◌, ◌&&◌, ◌||◌, nat_le, nat_lt, Bool, true, false, cond, List, [], ◌∷◌, length, drop}
+use Rattle.std.proofs.Common.{max, Option, Some, None, if◌then◌else◌, ap, sym, ◌∙◌, refl, subst, arith}
 use Rattle.o2_desc.specs.Choice.{chosen}
 use Rattle.o2_isa.specs.declared.cpu.Cpu.{Cpu}
 use Rattle.o2_regions.specs.declared.held.Region.TheVariants.{Private, Shared}
 use Rattle.o2_regions.specs.Maps.{Maps, IsProcess}
 use Rattle.o2_world.specs.Changes.{Change, Makes, Resizes, Locks, Marks, Holds, Drops, Finishes, Reserves, Frees, Names}
-use Rattle.o2_world.specs.HugeRulings.{all_bytes, all_dropped, all_hold, bytes_of, dropped_members, flags_in, free_run, huge_allocation, huge_at, huge_reallocation, huge_reallocation_of, is_first, is_huge_fault, left_in_run, new_members, other_shares, resized_members, resized_one, run_changes, run_resized, segments_of, sizes_of}
+use Rattle.o2_world.specs.HugeRulings.{all_bytes, all_dropped, all_hold, bytes_of, dropped_members, flags_in, free_run, huge_allocation, huge_at, huge_reallocation}
+use Rattle.o2_world.specs.HugeRulings.{huge_reallocation_of, is_first, is_huge_fault, left_in_run, new_members, other_shares, resized_members, resized_one, run_changes}
+use Rattle.o2_world.specs.HugeRulings.{run_resized, segments_of, sizes_of}
 use Rattle.o2_world.specs.Known.{Known, Marks as SegmentMarks}
 use Rattle.o2_world.specs.Rulings.{Ruling, full_size, held_under, in_use, indexes, members, refusal, region_by}
 use Rattle.o2_world.specs.SharedRulings.{marks_under, shared_from}

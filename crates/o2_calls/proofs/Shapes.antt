@@ -5,7 +5,9 @@ use Rattle.o2_isa.specs.declared.cpu.Cpu.{Cpu}
 use Rattle.o2_world.specs.World.{Held}
 use Rattle.o2_world.specs.Changes.{Change, Drops}
 use Rattle.o2_world.specs.Known.{Known, Marks}
-use Rattle.o2_world.specs.Rulings.{Ruling, aliasing_at, aliasing_of, allocation, allocation_at, by_load, free_index, freeing_of, full_size, held_as_code, held_by_call, held_under, in_use, is_alias, is_discardable, is_in_run, is_later, keeps_its_size, locking_of, locking_with, made_segment, members, reallocation_of, reallocation_with, region_by, sizing_of, unlocking_of, unlocking_with}
+use Rattle.o2_world.specs.Rulings.{Ruling, aliasing_at, aliasing_of, allocation, allocation_at, by_load, free_index, freeing_of, full_size, held_as_code, held_by_call}
+use Rattle.o2_world.specs.Rulings.{held_under, in_use, is_alias, is_discardable, is_in_run, is_later, keeps_its_size, locking_of, locking_with, made_segment, members}
+use Rattle.o2_world.specs.Rulings.{reallocation_of, reallocation_with, region_by, sizing_of, unlocking_of, unlocking_with}
 use Rattle.o2_world.specs.SharedNames.{name_by}
 use Rattle.o2_world.specs.SharedRulings.{each_more, getting_at, getting_from, giving_of, holder, index_of, lacks_flag, naming, naming_at, one_more, shared_segment, sharing, sharing_at, sharing_from, sharing_of}
 use Rattle.o2_isa.specs.View.{is_local}

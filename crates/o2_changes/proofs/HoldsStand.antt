@@ -91,7 +91,9 @@ granted_guarded s m n pid i access h g same guard was q j y e writable = elim (p
         subst (λ (u : HeldThere). (entry s u.id.key).attr.clean ≡ false) v
         (was pid i old is (ap is_writable (sym (g.rights pid i (ap is_some is))) ∙ wr))
 
-module _ (p : Parts) (w : World) (n : Maps) (pid i access : ℕ) (h : HeldThere) (x : Process) (g : Grants p.maps n pid i h access) (some : 0 < h.holds) (same : IfSome (held_there p.maps pid i) (λ y. y.id ≡ h.id)) (at : process_at w.processes pid ≡ Some x) (stands : Matches p w) where
+module _ (p : Parts) (w : World) (n : Maps) (pid i access : ℕ) (h : HeldThere) (x : Process) (g : Grants p.maps n pid i h access)
+    (some : 0 < h.holds) (same : IfSome (held_there p.maps pid i) (λ y. y.id ≡ h.id)) (at : process_at w.processes pid ≡ Some x)
+    (stands : Matches p w) where
   after : World
   after = with_change w (Holds pid i (held_as h access))
 

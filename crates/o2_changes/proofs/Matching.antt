@@ -134,14 +134,18 @@ pub size_matches : (s t : Shelf) (m n : Maps) (images : ImageList) (told : Bool)
     → (p : Parts) (w : World) → p.shelf ≡ s → p.maps ≡ m → p.images ≡ images → p.block ≡ before → IsTrue told → Matches p w → Matches (moved p t n after) (with_change w (ResizesChange id.age size))
 size_matches s t m n images told before after id size live r only clean order all p w es em ei eb tells q =
     sizes_match p w t n after told id size tells
-    (subst (λ (i : ImageList). Resizes told (picture i) p.shelf p.block t after id.key size) (sym ei) (subst (λ (x : Shelf). Resizes told (picture images) x p.block t after id.key size) (sym es) (subst (λ (b : ℕ → List ℕ). Resizes told (picture images) s b t after id.key size) (sym eb) r)))
+    (subst (λ (i : ImageList). Resizes told (picture i) p.shelf p.block t after id.key size) (sym ei)
+    (subst (λ (x : Shelf). Resizes told (picture images) x p.block t after id.key size) (sym es)
+    (subst (λ (b : ℕ → List ℕ). Resizes told (picture images) s b t after id.key size) (sym eb) r)))
     (subst (λ (x : Maps). OnlyTables x n) (sym em) only) (subst (λ (x : Shelf). IsSome (entry_of x id)) (sym es) live) q (subst (λ (i : ImageList). AreClean t (picture i)) (sym ei) clean) order (all ∙ ap (λ (x : Shelf). all_of x.swap) (sym es))
 
 pub unmake_matches : (s t : Shelf) (m : Maps) (id : SegId) → IsShelf s → IsSome (entry_of s id) → IsUnheld m id → Removes s t id.key → IsInOrder t m → all_of t.swap ≡ all_of s.swap
     → (p : Parts) (w : World) (sg : Segment) → p.shelf ≡ s → p.maps ≡ m → id.age ≡ w.next_name → get w.names w.next_name ≡ None
     → Matches p (with_change w (Makes sg)) → Matches (record p { shelf = record t { made = id.age } }) w
 unmake_matches s t m id shelf live none r order map p w sg es em age absent q =
-    subst (λ (k : ℕ). Matches (record p { shelf = record t { made = k } }) w) (sym age) (unmade_match p w sg t id (subst IsShelf (sym es) shelf) (subst (λ (x : Shelf). IsSome (entry_of x id)) (sym es) live) (subst (λ (x : Shelf). Removes x t id.key) (sym es) r) (subst (λ (x : Maps). IsUnheld x id) (sym em) none) age absent q
+    subst (λ (k : ℕ). Matches (record p { shelf = record t { made = k } }) w) (sym age)
+    (unmade_match p w sg t id (subst IsShelf (sym es) shelf) (subst (λ (x : Shelf). IsSome (entry_of x id)) (sym es) live)
+    (subst (λ (x : Shelf). Removes x t id.key) (sym es) r) (subst (λ (x : Maps). IsUnheld x id) (sym em) none) age absent q
     (subst (IsInOrder t) (sym em) order) (map ∙ ap (λ (x : Shelf). all_of x.swap) (sym es)))
 
 pub some_newest : (s t : Shelf) (o : Option SegId) (e : Entry) → IsShelf s → IfSome o (λ id. Adds s t id e) → IfSome o (λ id. IsNewest t id)

@@ -81,7 +81,9 @@ module _ (s t : Shelf) (told : Bool) (images : ImageList) (before after : ℕ �
   pub sized_aged : AreAged s → AreAged t
   sized_aged a j k x y e = a j k (sym (each j).live ∙ x) (sym (each k).live ∙ y) (sym (each j).age ∙ e ∙ (each k).age)
 
-module _ (p : Parts) (w : World) (t : Shelf) (m : Maps) (after : ℕ → List ℕ) (told : Bool) (id : SegId) (size : ℕ) (tells : IsTrue told) (r : Resizes told (picture p.images) p.shelf p.block t after id.key size) (only : OnlyTables p.maps m) (live : IsSome (entry_of p.shelf id)) (stands : Matches p w) where
+module _ (p : Parts) (w : World) (t : Shelf) (m : Maps) (after : ℕ → List ℕ) (told : Bool) (id : SegId) (size : ℕ) (tells : IsTrue told)
+    (r : Resizes told (picture p.images) p.shelf p.block t after id.key size) (only : OnlyTables p.maps m)
+    (live : IsSome (entry_of p.shelf id)) (stands : Matches p w) where
   named_other : (q : ℕ) → q ≢ id.age → (o : Option ℕ) (g : Option Segment) → key_of p.shelf q ≡ o → IsNamed p o g → IsNamed (moved p t m after) o g
   named_other q n None None e is = is
   named_other q n (Some k) None e is = absurd is

@@ -53,7 +53,10 @@ agrees_at nm p pid h c e = e
 same_index : (nm nm' : GName) (p q : Plain) (pid pid' : ℕ) → Framed nm nm' p q pid pid' → held_in q pid' ≡ held_in q pid
 same_index nm nm' p q pid pid' f = f.held ∙ sym (ap (λ (m : ℕ → ℕ → Option Hold). m pid) f.maps)
 
-pub plain_answers : (o : Outcome) (nm nm' : GName) (p q : Plain) (pid pid' : ℕ) (h h' : Holds) (c c' : Cpu) → Framed nm nm' p q pid pid' → Agrees c (bus_view nm p pid h) → Agrees c' (bus_view nm' q pid' h') → Answers o (state c' (bus_view nm' q pid' h')) (state c (bus_view nm p pid h)) (stepped (state c (bus_view nm p pid h))) → Answers o (state c' (plain_view q pid c')) (state c (plain_view p pid c)) (stepped (state c (plain_view p pid c)))
+pub plain_answers : (o : Outcome) (nm nm' : GName) (p q : Plain) (pid pid' : ℕ) (h h' : Holds) (c c' : Cpu) → Framed nm nm' p q pid pid'
+    → Agrees c (bus_view nm p pid h) → Agrees c' (bus_view nm' q pid' h')
+    → Answers o (state c' (bus_view nm' q pid' h')) (state c (bus_view nm p pid h)) (stepped (state c (bus_view nm p pid h)))
+    → Answers o (state c' (plain_view q pid c')) (state c (plain_view p pid c)) (stepped (state c (plain_view p pid c)))
 plain_answers o nm nm' p q pid pid' h h' c c' f a a' r =
     subst (λ (z : State). Answers o z (state c (plain_view p pid c)) (stepped (state c (plain_view p pid c)))) (plain_state nm' q pid pid' h' c' (same_index nm nm' p q pid pid' f) a')
     (subst (λ (z : State). Answers o (unseen no_rest no_hidden (state c' (bus_view nm' q pid' h'))) z (stepped z)) (plain_state nm p pid pid h c refl a)

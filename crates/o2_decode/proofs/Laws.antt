@@ -1,5 +1,6 @@
 -- Reading: what is read is spelled so, what is spelled so is read, what is begun can be finished, what is refused stays refused.
-use Rattle.std.proofs.Common.{◌≡◌, ◌⊎◌, ◌↔◌, inl, inr, refl, sym, ◌∙◌, ap, subst, ℕ, zero, suc, ◌+◌, ◌-◌, ◌<◌, ◌≤◌, Bool, true, false, cond, ◌||◌, eqb, nat_lt, List, [], ◌∷◌, ◌++◌, length, take, drop, replicate, slice_index_or, arith, append_assoc, length-append}
+use Rattle.std.proofs.Common.{◌≡◌, ◌⊎◌, ◌↔◌, inl, inr, refl, sym, ◌∙◌, ap, subst, ℕ, zero, suc, ◌+◌, ◌-◌, ◌<◌, ◌≤◌, Bool, true, false, cond, ◌||◌, eqb, nat_lt, List, []}
+use Rattle.std.proofs.Common.{◌∷◌, ◌++◌, length, take, drop, replicate, slice_index_or, arith, append_assoc, length-append}
 use Rattle.std.specs.Prelude.{Some}
 use Rattle.std.specs.List.{AllByRecursion}
 use Rattle.std.proofs.lemmas.Bool.{eqb-true, ltb-true, ltb-false, lt-ltb, le-ltb}
@@ -285,7 +286,9 @@ body_again head tail rest p k plan known whole =
     room : length head + tail_len plan ≤ length (head ++ (tail ++ rest))
     room = omega (arith, length-append head (tail ++ rest), length-append tail rest, whole)
 
-start_again : (ps head tail rest : List ℕ) (p : Prefixes) (k : ℕ) (plan : Plan) → AllByRecursion IsPrefix ps → plan_of head ≡ Some plan → length tail ≡ tail_len plan → read p k (ps ++ (head ++ (tail ++ rest))) ≡ One (instr_of (marks p ps) plan tail) (k + (length ps + (length head + tail_len plan)))
+start_again : (ps head tail rest : List ℕ) (p : Prefixes) (k : ℕ) (plan : Plan) → AllByRecursion IsPrefix ps → plan_of head ≡ Some plan
+    → length tail ≡ tail_len plan → read p k (ps ++ (head ++ (tail ++ rest)))
+    ≡ One (instr_of (marks p ps) plan tail) (k + (length ps + (length head + tail_len plan)))
 start_again [] [] tail rest p k plan each known whole = cc
 start_again [] (b ∷ head) tail rest p k plan each known whole =
     cond_false (is_prefix b) _ _ (not_prefix b head plan known)

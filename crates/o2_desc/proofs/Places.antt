@@ -31,16 +31,112 @@ pub TakesPlaces-popped : (old word : ℕ) → TakesPlaces popped_places old word
 TakesPlaces-popped old word =
     let w = λ (k : ℕ) (e : bit_at 45610 k ≡ 0) (f : bit_at 19925 k ≡ 1). written old word 45610 19925 k e f in
     let s = λ (k : ℕ) (e : bit_at 45610 k ≡ 1) (f : bit_at 19925 k ≡ 0). kept old word 45610 19925 k e f in
-    at_each _ 16 ((((((((((((((((tt, w 0 refl refl), s 1 refl refl), w 2 refl refl), s 3 refl refl), w 4 refl refl), s 5 refl refl), w 6 refl refl), w 7 refl refl), w 8 refl refl), s 9 refl refl), w 10 refl refl), w 11 refl refl), s 12 refl refl), s 13 refl refl), w 14 refl refl), s 15 refl refl)
+    at_each _ 16 (
+      (
+        (
+          (
+            (
+              (
+                (
+                  (
+                    (
+                      (
+                        ((((((tt, w 0 refl refl), s 1 refl refl), w 2 refl refl), s 3 refl refl), w 4 refl refl), s 5 refl refl),
+                        w 6
+                            refl refl,
+                      ),
+                      w 7 refl refl,
+                    ),
+                    w 8 refl refl,
+                  ),
+                  s 9 refl refl,
+                ),
+                w 10 refl refl,
+              ),
+              w 11 refl refl,
+            ),
+            s 12 refl refl,
+          ),
+          s 13 refl refl,
+        ),
+        w 14
+            refl refl,
+      ),
+      s 15 refl refl,
+    )
 
 pub TakesPlaces-loaded : (old word : ℕ) → TakesPlaces loaded_places old word (with_places loaded_places old word)
 TakesPlaces-loaded old word =
     let w = λ (k : ℕ) (e : bit_at 65322 k ≡ 0) (f : bit_at 213 k ≡ 1). written old word 65322 213 k e f in
     let s = λ (k : ℕ) (e : bit_at 65322 k ≡ 1) (f : bit_at 213 k ≡ 0). kept old word 65322 213 k e f in
-    at_each _ 16 ((((((((((((((((tt, w 0 refl refl), s 1 refl refl), w 2 refl refl), s 3 refl refl), w 4 refl refl), s 5 refl refl), w 6 refl refl), w 7 refl refl), s 8 refl refl), s 9 refl refl), s 10 refl refl), s 11 refl refl), s 12 refl refl), s 13 refl refl), s 14 refl refl), s 15 refl refl)
+    at_each _ 16 (
+      (
+        (
+          (
+            (
+              (
+                (
+                  (
+                    (
+                      (
+                        ((((((tt, w 0 refl refl), s 1 refl refl), w 2 refl refl), s 3 refl refl), w 4 refl refl), s 5 refl refl),
+                        w 6
+                            refl refl,
+                      ),
+                      w 7 refl refl,
+                    ),
+                    s 8 refl refl,
+                  ),
+                  s 9 refl refl,
+                ),
+                s 10 refl refl,
+              ),
+              s 11 refl refl,
+            ),
+            s 12 refl refl,
+          ),
+          s 13 refl refl,
+        ),
+        s 14
+            refl refl,
+      ),
+      s 15 refl refl,
+    )
 
 pub TakesPlaces-shown : (word : ℕ) → TakesPlaces flag_places no_flags word (with_places flag_places no_flags word)
 TakesPlaces-shown word =
     let w = λ (k : ℕ) (e : bit_at 32810 k ≡ 0) (f : bit_at 32725 k ≡ 1). written 2 word 32810 32725 k e f in
     let s = λ (k : ℕ) (e : bit_at 32810 k ≡ 1) (f : bit_at 32725 k ≡ 0). kept 2 word 32810 32725 k e f in
-    at_each _ 16 ((((((((((((((((tt, w 0 refl refl), s 1 refl refl), w 2 refl refl), s 3 refl refl), w 4 refl refl), s 5 refl refl), w 6 refl refl), w 7 refl refl), w 8 refl refl), w 9 refl refl), w 10 refl refl), w 11 refl refl), w 12 refl refl), w 13 refl refl), w 14 refl refl), s 15 refl refl)
+    at_each _ 16 (
+      (
+        (
+          (
+            (
+              (
+                (
+                  (
+                    (
+                      (
+                        ((((((tt, w 0 refl refl), s 1 refl refl), w 2 refl refl), s 3 refl refl), w 4 refl refl), s 5 refl refl),
+                        w 6
+                            refl refl,
+                      ),
+                      w 7 refl refl,
+                    ),
+                    w 8 refl refl,
+                  ),
+                  w 9 refl refl,
+                ),
+                w 10 refl refl,
+              ),
+              w 11 refl refl,
+            ),
+            w 12 refl refl,
+          ),
+          w 13 refl refl,
+        ),
+        w 14
+            refl refl,
+      ),
+      s 15 refl refl,
+    )

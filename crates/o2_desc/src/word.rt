@@ -40,7 +40,9 @@ impl Flags for FlagsWord {
 
     ghost exact = { ⊤ };
 
-    ghost table = { (codes "CARRY", 1) ∷ (codes "PARITY", 4) ∷ (codes "ADJUST", 16) ∷ (codes "ZERO", 64) ∷ (codes "SIGN", 128) ∷ (codes "TRAP", 256) ∷ (codes "INTERRUPT", 512) ∷ (codes "DIRECTION", 1024) ∷ (codes "OVERFLOW", 2048) ∷ (codes "IO_PRIVILEGE", 12288) ∷ (codes "NESTED", 16384) ∷ [] };
+    ghost table = { (codes "CARRY", 1) ∷ (codes "PARITY", 4) ∷ (codes "ADJUST", 16) ∷ (codes "ZERO", 64) ∷ (codes "SIGN", 128)
+        ∷ (codes "TRAP", 256) ∷ (codes "INTERRUPT", 512) ∷ (codes "DIRECTION", 1024) ∷ (codes "OVERFLOW", 2048)
+        ∷ (codes "IO_PRIVILEGE", 12288) ∷ (codes "NESTED", 16384) ∷ [] };
 
     ghost set_of = { λ a. a.0 };
 

@@ -36,7 +36,8 @@ as_process n s c r h p a b d e f =
     ∙ (ap (λ (z : Cpu). let x : Process = record { number = p.number; state = p.state; code = p.code; registers = z; held = h } in x) e
     ∙ ap (λ (z : List Held). let x : Process = record { number = p.number; state = p.state; code = p.code; registers = p.registers; held = z } in x) f)))
 
-as_registers : (r : Cpu) (v0 v1 v2 v3 v4 v5 v6 v7 v8 v9 v10 v11 v12 v13 : ℕ) → v0 ≡ r.ax → v1 ≡ r.cx → v2 ≡ r.dx → v3 ≡ r.bx → v4 ≡ r.sp → v5 ≡ r.bp → v6 ≡ r.si → v7 ≡ r.di → v8 ≡ r.ip → v9 ≡ r.flags → v10 ≡ r.cs → v11 ≡ r.ds → v12 ≡ r.es → v13 ≡ r.ss
+as_registers : (r : Cpu) (v0 v1 v2 v3 v4 v5 v6 v7 v8 v9 v10 v11 v12 v13 : ℕ) → v0 ≡ r.ax → v1 ≡ r.cx → v2 ≡ r.dx → v3 ≡ r.bx → v4 ≡ r.sp
+    → v5 ≡ r.bp → v6 ≡ r.si → v7 ≡ r.di → v8 ≡ r.ip → v9 ≡ r.flags → v10 ≡ r.cs → v11 ≡ r.ds → v12 ≡ r.es → v13 ≡ r.ss
     → record { ax = v0; cx = v1; dx = v2; bx = v3; sp = v4; bp = v5; si = v6; di = v7; ip = v8; flags = v9; cs = v10; ds = v11; es = v12; ss = v13 } ≡ r
 as_registers r v0 v1 v2 v3 v4 v5 v6 v7 v8 v9 v10 v11 v12 v13 e0 e1 e2 e3 e4 e5 e6 e7 e8 e9 e10 e11 e12 e13 =
     ap (λ (z : ℕ). let x : Cpu = record { ax = z; cx = v1; dx = v2; bx = v3; sp = v4; bp = v5; si = v6; di = v7; ip = v8; flags = v9; cs = v10; ds = v11; es = v12; ss = v13 } in x) e0

@@ -107,7 +107,12 @@ module _ (v : View) (c : Cpu) (size s : ℕ) (found : (f : Filling) → IsBound 
   realloc_row b next fits first last = rw (fits, first, last) refl
 
   pub realloc_gathers : Gathers v c (OnSegments DosReallocSeg) (Good (given.Realloc size s))
-  realloc_gathers = unaimed v c DosReallocSeg (given.Realloc size s) refl (λ x. refl) (record { fits = λ f bound. (two f bound).0; row = λ f number next input known bound. realloc_row (before_call (boundless f v) number c input known) next (two f bound).0 (two f bound).1 (two f bound).2 })
+  realloc_gathers = unaimed v c DosReallocSeg (given.Realloc size s) refl (λ x. refl)
+      (record {
+        fits = λ f bound. (two f bound).0;
+        row = λ f number next input known bound. realloc_row
+            (before_call (boundless f v) number c input known) next (two f bound).0 (two f bound).1 (two f bound).2;
+      })
 
 -- Calls with a pointer.
 
@@ -134,7 +139,9 @@ module _ (v : View) (c : Cpu) (call : SegmentCall) (a : SegmentArguments) (s o n
 
   pub aimed : (result : Gathered) → Aims v (pointer true s o n ∷ []) a result → Gathers v c (OnSegments call) result
   aimed (Good x) aims = record {
-    asks = λ f number next input known bound. is.good f number next input known bound (write_tells (before_call (boundless f v) number c input known) s o n true (aims.1.good f)) ∙ ap (λ (y : SegmentArguments). asked y (before_call (boundless f v) number c input known) next) (sym aims.0);
+    asks = λ f number next input known bound. is.good f number next input known bound
+        (write_tells (before_call (boundless f v) number c input known) s o n true (aims.1.good f))
+        ∙ ap (λ (y : SegmentArguments). asked y (before_call (boundless f v) number c input known) next) (sym aims.0);
     points = λ f number input known bound.
         sym (names_are f number input known bound) ∙ (ap (pointed (boundless f v)) (sym is.target) ∙ ap (λ (y : SegmentArguments). pointed (boundless f v) (targets y)) (sym aims.0));
     ready = ap (λ (y : SegmentArguments). are_ready v (targets y)) aims.0 ∙ (ap (are_ready v) is.target ∙ aims.1.ready);
@@ -156,7 +163,9 @@ module _ (v : View) (c : Cpu) (call : SegmentCall) (a : SegmentArguments) (s o n
     names = λ number input known bound f. subst (IsMissed v z) (names_are f number input known bound) (aims.missed f);
   }
 
-module _ (v : View) (c : Cpu) (sel s o : ℕ) (found : (f : Filling) → IsBound v → ◌≡◌ {A = Option (ℕ × ℕ × ℕ)} (Some (sel, s, o)) (if has_arguments (boundless f v) c 3 then Some (argument (boundless f v) c 2, argument (boundless f v) c 1, argument (boundless f v) c 0) else None)) where
+module _ (v : View) (c : Cpu) (sel s o : ℕ) (found : (f : Filling) → IsBound v
+    → ◌≡◌ {A = Option (ℕ × ℕ × ℕ)} (Some (sel, s, o)) (if has_arguments (boundless f v) c 3
+    then Some (argument (boundless f v) c 2, argument (boundless f v) c 1, argument (boundless f v) c 0) else None)) where
   three_are : (b : Bool) (x y : ℕ × ℕ × ℕ) → Some y ≡ (if b then Some x else None) → (b ≡ true) × (y.0 ≡ x.0) × (y.1 ≡ x.1) × (y.2 ≡ x.2)
   three_are true x y e = let same : y ≡ x = cc in (refl, ap (λ (p : ℕ × ℕ × ℕ). p.0) same, ap (λ (p : ℕ × ℕ × ℕ). p.1) same, ap (λ (p : ℕ × ℕ × ℕ). p.2) same)
   three_are false x y e = absurd (cc)
@@ -206,7 +215,14 @@ module _ (v : View) (c : Cpu) (sel s o : ℕ) (found : (f : Filling) → IsBound
   })
 
 module _ (v : View) (c : Cpu) (size s o flags : ℕ)
-    (found : (f : Filling) → IsBound v → ◌≡◌ {A = Option (ℕ × ℕ × ℕ × ℕ)} (Some (size, s, o, flags)) (if has_arguments (boundless f v) c 4 then Some (argument (boundless f v) c 3, argument (boundless f v) c 2, argument (boundless f v) c 1, argument (boundless f v) c 0) else None)) where
+    (found : (f : Filling) → IsBound v → ◌≡◌ {A = Option (ℕ × ℕ × ℕ × ℕ)} (Some (size, s, o, flags))
+    (if has_arguments (boundless f v) c 4 then Some (
+      argument (boundless f v) c 3,
+      argument (boundless f v) c 2,
+      argument
+          (boundless f v) c 1,
+      argument (boundless f v) c 0,
+    ) else None)) where
   four_are : (b : Bool) (x y : ℕ × ℕ × ℕ × ℕ) → Some y ≡ (if b then Some x else None) → (b ≡ true) × (y.0 ≡ x.0) × (y.1 ≡ x.1) × (y.2 ≡ x.2) × (y.3 ≡ x.3)
   four_are true x y e =
       let same : y ≡ x = cc in

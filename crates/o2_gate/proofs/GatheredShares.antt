@@ -131,7 +131,14 @@ module _ (v : View) (c : Cpu) (s : ℕ) (found : (f : Filling) → IsBound v →
 
 -- Four arguments.
 module _ (v : View) (c : Cpu) (w x y z : ℕ)
-    (found : (f : Filling) → IsBound v → ◌≡◌ {A = Option (ℕ × ℕ × ℕ × ℕ)} (Some (w, x, y, z)) (if has_arguments (boundless f v) c 4 then Some (argument (boundless f v) c 3, argument (boundless f v) c 2, argument (boundless f v) c 1, argument (boundless f v) c 0) else None)) where
+    (found : (f : Filling) → IsBound v → ◌≡◌ {A = Option (ℕ × ℕ × ℕ × ℕ)} (Some (w, x, y, z))
+    (if has_arguments (boundless f v) c 4 then Some (
+      argument (boundless f v) c 3,
+      argument (boundless f v) c 2,
+      argument
+          (boundless f v) c 1,
+      argument (boundless f v) c 0,
+    ) else None)) where
   four_are : (b : Bool) (p q : ℕ × ℕ × ℕ × ℕ) → Some q ≡ (if b then Some p else None) → (b ≡ true) × (q.0 ≡ p.0) × (q.1 ≡ p.1) × (q.2 ≡ p.2) × (q.3 ≡ p.3)
   four_are true p q e =
       let same : q ≡ p = cc in
@@ -194,7 +201,10 @@ module _ (v : View) (c : Cpu) (w x y z : ℕ)
   share_pointed = record {
     fits = λ f bound. (four f bound).0;
     points = share_points;
-    bad = λ f number next input known bound bad. let q = four f bound in share_row (before_call (boundless f v) number c input known) next q.0 q.1 q.2 q.3 q.4 ∙ bad_share (before_call (boundless f v) number c input known) next (pair_false (may_read_text (boundless f v) w x) (may_write (boundless f v) y z 2) bad);
+    bad = λ f number next input known bound bad.
+        let q = four f bound in
+        share_row (before_call (boundless f v) number c input known) next q.0 q.1 q.2 q.3 q.4
+        ∙ bad_share (before_call (boundless f v) number c input known) next (pair_false (may_read_text (boundless f v) w x) (may_write (boundless f v) y z 2) bad);
   }
 
   good_share : (t : TextArgument) → IsRead v w x t → (f : Filling) (number next : ℕ) (input : List ℕ) (known : Known) → (may_read_text (boundless f v) w x && may_write (boundless f v) y z 2) ≡ true
@@ -218,17 +228,33 @@ module _ (v : View) (c : Cpu) (w x y z : ℕ)
 
 -- DosAllocShrSeg.
 module _ (v : View) (c : Cpu) (size w x y z : ℕ)
-    (found : (f : Filling) → IsBound v → ◌≡◌ {A = Option (ℕ × ℕ × ℕ × ℕ × ℕ)} (Some (size, w, x, y, z)) (if has_arguments (boundless f v) c 5 then Some (argument (boundless f v) c 4, argument (boundless f v) c 3, argument (boundless f v) c 2, argument (boundless f v) c 1, argument (boundless f v) c 0) else None)) where
+    (found : (f : Filling) → IsBound v → ◌≡◌ {A = Option (ℕ × ℕ × ℕ × ℕ × ℕ)} (Some (size, w, x, y, z))
+    (if has_arguments (boundless f v) c 5 then Some (
+      argument (boundless f v) c 4,
+      argument (boundless f v) c 3,
+      argument
+          (boundless f v) c 2,
+      argument (boundless f v) c 1,
+      argument (boundless f v) c 0,
+    ) else None)) where
   five_are : (b : Bool) (p q : ℕ × ℕ × ℕ × ℕ × ℕ) → Some q ≡ (if b then Some p else None) → (b ≡ true) × (q.0 ≡ p.0) × (q.1 ≡ p.1) × (q.2 ≡ p.2) × (q.3 ≡ p.3) × (q.4 ≡ p.4)
   five_are true p q e =
-      let same : q ≡ p = cc in
-      (refl, ap (λ (r : ℕ × ℕ × ℕ × ℕ × ℕ). r.0) same, ap (λ (r : ℕ × ℕ × ℕ × ℕ × ℕ). r.1) same, ap (λ (r : ℕ × ℕ × ℕ × ℕ × ℕ). r.2) same, ap (λ (r : ℕ × ℕ × ℕ × ℕ × ℕ). r.3) same, ap (λ (r : ℕ × ℕ × ℕ × ℕ × ℕ). r.4) same)
+      let same : q ≡ p = cc in (
+        refl,
+        ap (λ (r : ℕ × ℕ × ℕ × ℕ × ℕ). r.0) same,
+        ap (λ (r : ℕ × ℕ × ℕ × ℕ × ℕ). r.1) same,
+        ap (λ (r : ℕ × ℕ × ℕ × ℕ × ℕ). r.2) same,
+        ap (λ (r : ℕ × ℕ × ℕ × ℕ × ℕ). r.3) same,
+        ap (λ (r : ℕ × ℕ × ℕ × ℕ × ℕ). r.4) same,
+      )
   five_are false p q e = absurd (cc)
 
   five : (f : Filling) → IsBound v → (has_arguments (boundless f v) c 5 ≡ true) × (size ≡ argument (boundless f v) c 4) × (w ≡ argument (boundless f v) c 3) × (x ≡ argument (boundless f v) c 2) × (y ≡ argument (boundless f v) c 1) × (z ≡ argument (boundless f v) c 0)
   five f bound = five_are (has_arguments (boundless f v) c 5) (argument (boundless f v) c 4, argument (boundless f v) c 3, argument (boundless f v) c 2, argument (boundless f v) c 1, argument (boundless f v) c 0) (size, w, x, y, z) (found f bound)
 
-  name_row : (b : Before) (next : ℕ) → has_arguments b.view b.cpu 5 ≡ true → size ≡ argument b.view b.cpu 4 → w ≡ argument b.view b.cpu 3 → x ≡ argument b.view b.cpu 2 → y ≡ argument b.view b.cpu 1 → z ≡ argument b.view b.cpu 0 → dos_alloc_shr_seg b next ≡ named b next size w x y z
+  name_row : (b : Before) (next : ℕ) → has_arguments b.view b.cpu 5 ≡ true → size ≡ argument b.view b.cpu 4 → w ≡ argument b.view b.cpu 3
+      → x ≡ argument b.view b.cpu 2 → y ≡ argument b.view b.cpu 1 → z ≡ argument b.view b.cpu 0 → dos_alloc_shr_seg b next
+      ≡ named b next size w x y z
   unfolding dos_alloc_shr_seg
   name_row b next fits o p q r s = rw (fits, o, p, q, r, s) refl
 
@@ -248,7 +274,10 @@ module _ (v : View) (c : Cpu) (size w x y z : ℕ)
   name_pointed = record {
     fits = λ f bound. (five f bound).0;
     points = name_points;
-    bad = λ f number next input known bound bad. let q = five f bound in name_row (before_call (boundless f v) number c input known) next q.0 q.1 q.2 q.3 q.4 q.5 ∙ bad_name (before_call (boundless f v) number c input known) next (pair_false (may_read_text (boundless f v) w x) (may_write (boundless f v) y z 2) bad);
+    bad = λ f number next input known bound bad.
+        let q = five f bound in
+        name_row (before_call (boundless f v) number c input known) next q.0 q.1 q.2 q.3 q.4 q.5
+        ∙ bad_name (before_call (boundless f v) number c input known) next (pair_false (may_read_text (boundless f v) w x) (may_write (boundless f v) y z 2) bad);
   }
 
   good_name : (t : TextArgument) → IsRead v w x t → (f : Filling) (number next : ℕ) (input : List ℕ) (known : Known) → (may_read_text (boundless f v) w x && may_write (boundless f v) y z 2) ≡ true

@@ -151,7 +151,9 @@ pub zero_name : (xs : List ℕ) (i : ℕ) → position (λ (x : ℕ). x == 0) xs
 zero_name xs i e = (let p = parts xs i e in ap before_zero p.whole ∙ whole_front (take i xs) p.rest p.some)
 
 pub none_name : (xs : List ℕ) → length xs ≡ 129 → ◌≡◌ {A = Option ℕ} (position (λ (x : ℕ). x == 0) xs) None → name_by (Some xs) ≡ name_by (before_zero xs)
-none_name xs long e = cond-false (is_name xs) (Some (folded xs)) None (no_name (same_text (take 10 (folded xs)) name_front) (nat_lt 10 (length xs)) (nat_le (length xs) name_most) (list_all is_name_byte (drop 10 xs)) (too_long (length xs) long)) ∙ sym (ap name_by (text_none xs (none_some xs e)))
+none_name xs long e = cond-false (is_name xs) (Some (folded xs)) None
+    (no_name (same_text (take 10 (folded xs)) name_front) (nat_lt 10 (length xs)) (nat_le (length xs) name_most)
+    (list_all is_name_byte (drop 10 xs)) (too_long (length xs) long)) ∙ sym (ap name_by (text_none xs (none_some xs e)))
   where
     too_long : (n : ℕ) → n ≡ 129 → nat_le n 128 ≡ false
     too_long n l = grind (arith, nat_tests)

@@ -1,5 +1,6 @@
 -- What the row of DosReallocHuge comes to, by what a process holds of a run.
-use Rattle.std.proofs.Common.{◌≡◌, ◌≢◌, ◌⊎◌, inl, inr, ℕ, zero, suc, ◌+◌, ◌-◌, ◌*◌, ◌<◌, ◌≤◌, ◌==◌, ◌&&◌, ◌||◌, not, nat_le, nat_lt, min, Bool, true, false, cond, eqb, List, [], ◌∷◌, ◌++◌, length, drop, replicate, filter, Option, Some, None, is_some, option_map, refl, sym, ap, ◌∙◌, subst, arith}
+use Rattle.std.proofs.Common.{◌≡◌, ◌≢◌, ◌⊎◌, inl, inr, ℕ, zero, suc, ◌+◌, ◌-◌, ◌*◌, ◌<◌, ◌≤◌, ◌==◌, ◌&&◌, ◌||◌, not, nat_le, nat_lt, min, Bool, true, false, cond, eqb}
+use Rattle.std.proofs.Common.{List, [], ◌∷◌, ◌++◌, length, drop, replicate, filter, Option, Some, None, is_some, option_map, refl, sym, ap, ◌∙◌, subst, arith}
 use Rattle.std.specs.Prelude.{find, flat_map, if◌then◌else◌}
 use Rattle.std.proofs.lemmas.Bool.{and_parts, cases_lt, cond-true, cond-false, eq-eqb, eqb-true, false≢true, ne_eqb}
 use Rattle.std.proofs.lemmas.Bool.Decides.{nat_tests}
@@ -383,7 +384,9 @@ module _ (p : Parts) (o : Others) (kept : AreKept p.maps) (named : AreNamed p.sh
         ∙ ap (λ (x : ℕ). news (left_in_run k pid hold) (drop n zs) ++ dropped_members k pid (drop x (indexes first n))) (sizes_long segs part)
         ∙ ap (λ (cs : List Change). news (left_in_run k pid hold) (drop n zs) ++ cs) (lost_are (drop w (indexes first n)))
         ∙ behind (nat_lt n w) refl
-        ∙ ap (λ (c : ℕ). cond (nat_lt n w) (new_members p.shelf.made first c (flags_there p.shelf (held_at p.maps pid first)) ((pid, h.holds) ∷ shares_in p.maps pid first) (indexes (first + n) (w - n)) (sizes_of (segs - n) part)) (lost_in p.maps pid (indexes (first + w) (n - w)))) (sym whole)
+        ∙ ap (λ (c : ℕ). cond (nat_lt n w) (new_members p.shelf.made first c (flags_there p.shelf (held_at p.maps pid first))
+        ((pid, h.holds) ∷ shares_in p.maps pid first) (indexes (first + n) (w - n)) (sizes_of (segs - n) part))
+        (lost_in p.maps pid (indexes (first + w) (n - w)))) (sym whole)
         ∙ ap (λ (x : Option Held). cond (nat_lt n w) (new_members p.shelf.made first (run_count first h) (flags_there p.shelf (held_at p.maps pid first)) ((pid, holds_of x) ∷ shares_in p.maps pid first) (indexes (first + n) (w - n)) (sizes_of (segs - n) part))
         (lost_in p.maps pid (indexes (first + w) (n - w)))) (sym here))
 

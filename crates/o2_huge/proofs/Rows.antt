@@ -1,5 +1,6 @@
 -- What the row of DosAllocHuge comes to.
-use Rattle.std.proofs.Common.{◌≡◌, ℕ, zero, suc, ◌+◌, ◌-◌, ◌%◌, ◌<◌, ◌≤◌, ◌==◌, List, [], ◌∷◌, ◌++◌, length, replicate, max, Option, Some, None, IfSome, Bool, true, false, cond, eqb, nat_lt, if◌then◌else◌, refl, sym, ap, ◌∙◌, subst, arith}
+use Rattle.std.proofs.Common.{◌≡◌, ℕ, zero, suc, ◌+◌, ◌-◌, ◌%◌, ◌<◌, ◌≤◌, ◌==◌, List, [], ◌∷◌, ◌++◌, length, replicate, max, Option, Some, None, IfSome, Bool, true}
+use Rattle.std.proofs.Common.{false, cond, eqb, nat_lt, if◌then◌else◌, refl, sym, ap, ◌∙◌, subst, arith}
 use Rattle.std.proofs.lemmas.Bool.{cond-false, cond-true, ne_eqb, or_parts}
 use Rattle.std.proofs.lemmas.Bool.Decides.{nat_tests}
 use Rattle.o2_desc.specs.Bits.{has_bit}
@@ -161,6 +162,8 @@ pub alloc_matches : (p : Parts) (o : Others) (w : World) (x : Process) (s t : Sh
     → MatchesWith s t m n pid (made_changes pid segs part count flags first s.made) → Matches p w
     → Matches (record p { shelf = t; maps = n }) (with_all w (huge_at (known_in p o) pid segs part count flags (Some first)).changes)
 alloc_matches p o w x s t m n pid segs part count flags first es em at a q =
-    subst (λ (k : ℕ). Matches (record p { shelf = t; maps = n }) (with_all w (new_members k first count flags ((pid, 1) ∷ []) (indexes first (segments_of segs part)) (sizes_of segs part) ++ Reserves (run_reserve (region_by pid flags) first count) ∷ []))) (ap (λ (y : Shelf). y.made) (sym es))
+    subst (λ (k : ℕ). Matches (record p { shelf = t; maps = n })
+    (with_all w (new_members k first count flags ((pid, 1) ∷ []) (indexes first (segments_of segs part)) (sizes_of segs part)
+    ++ Reserves (run_reserve (region_by pid flags) first count) ∷ []))) (ap (λ (y : Shelf). y.made) (sym es))
     (subst (λ (k : ℕ). Matches (record p { shelf = t; maps = n }) (with_all w (new_members s.made first count flags ((pid, 1) ∷ []) (indexes first (segments_of segs part)) (sizes_of segs part) ++ Reserves (run_reserve k first count) ∷ []))) (number_is pid flags)
     (subst (λ (v : World). Matches (record p { shelf = t; maps = n }) v) (sym (run_all w s.made first count flags (run_reserve (number_of (region_for pid flags)) first count) ((pid, 1) ∷ []) (indexes first (segments_of segs part)) (sizes_of segs part))) (a.world p w x es em at q)))

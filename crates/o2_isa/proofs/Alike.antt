@@ -19,7 +19,10 @@ use Rattle.o2_isa.specs.declared.cpu.Loaded.TheVariants as loaded
 use Rattle.o2_isa.specs.declared.cpu.Stop.{Stop}
 use Rattle.o2_isa.specs.declared.cpu.Stop.TheVariants as stop
 use Rattle.o2_isa.proofs.Pokes.{poke_cases}
-use Rattle.o2_isa.specs.View.{with_bytes, is_loadable, present_hold, View, Hold, Filling, whole, KeepsFrame, IsBound, present_or_none, put_at, value_at, width_len, outside, is_readable, is_writable, is_code, is_null, is_local, reached, read_name, read_of, room_of, probe_of, found, when, here, refused, size_at, rights_at, gate_at, bind, poke, poke_hold, in_register, trap_of, through_gate, called, Rest, Hidden, Registers, with_register, bound_in, bound_registers, Agrees}
+use Rattle.o2_isa.specs.View.{with_bytes, is_loadable, present_hold, View, Hold, Filling, whole, KeepsFrame, IsBound, present_or_none, put_at, value_at, width_len}
+use Rattle.o2_isa.specs.View.{outside, is_readable, is_writable, is_code, is_null, is_local, reached, read_name, read_of, room_of, probe_of, found, when, here, refused}
+use Rattle.o2_isa.specs.View.{size_at, rights_at, gate_at, bind, poke, poke_hold, in_register, trap_of, through_gate, called, Rest, Hidden, Registers, with_register}
+use Rattle.o2_isa.specs.View.{bound_in, bound_registers, Agrees}
 use Rattle.o2_isa.specs.Presence.{with_unseen, unseen_result, with_binds, SameSelectors, AsWhole, names_after, hold_name, loaded_names, is_in, IsMissed, IsRow, WritesFirst, OnlyBinds}
 use Rattle.o2_isa.specs.Steps.{State, state, Steps, Stops, Ends, Reads, Room, Loads, Sizes, Rights, Change, Bind, Write, Copy, changed, word_there, value_or_zero, or_trap, passed, selector, run, ◌>>=◌}
 
@@ -201,7 +204,9 @@ later (m ∷ ns) ms n e = or_right (m == n) _ (later ns ms n e)
 first : (o : Option Hold) (x : Hold) (ms : List ℕ) → o ≡ Some x → is_in x.name (hold_name o ++ ms) ≡ true
 first o x ms e = subst (λ (z : Option Hold). is_in x.name (hold_name z ++ ms) ≡ true) (sym e) (ap (λ (b : Bool). b || is_in x.name ms) (eq-eqb x.name x.name refl))
 
-after_load : (h : Filling) (v : View) (s next : ℕ) (t : Selector) (a b : Loaded) (r : Result State Stop) (ns : List ℕ) → Probes v s a b → (r ≡ Err (stop.Miss t) → IsMissed v t ns) → (passed next a >>= (λ (_ : ℕ). r)) ≡ Err (stop.Miss t) → IsMissed v t (names_after (passed next b) (λ _. hold_name (found v s) ++ ns))
+after_load : (h : Filling) (v : View) (s next : ℕ) (t : Selector) (a b : Loaded) (r : Result State Stop) (ns : List ℕ) → Probes v s a b
+    → (r ≡ Err (stop.Miss t) → IsMissed v t ns) → (passed next a >>= (λ (_ : ℕ). r)) ≡ Err (stop.Miss t)
+    → IsMissed v t (names_after (passed next b) (λ _. hold_name (found v s) ++ ns))
 after_load h v s next t loaded.Done b r ns p k e =
     let m = k e in
     subst (λ (z : Loaded). IsMissed v t (names_after (passed next z) (λ _. hold_name (found v s) ++ ns))) (sym p)
@@ -335,11 +340,17 @@ split_in (m ∷ ns) ms n P a b e = go (m == n) (λ f. split_in ns ms n P f b) a 
     go true h a e = a refl
     go false h a e = h a e
 
-present_check : (v : View) (n : ℕ) (q : Result ℕ (ℕ × ℕ)) (f : ℕ → Result State Stop) (g : ℕ → List ℕ) → ((t : Selector) → (or_trap q >>= f) ≡ Err (stop.Miss t) → ⊥) → ((x : ℕ) → ((t : Selector) → f x ≡ Err (stop.Miss t) → ⊥) → is_in n (g x) ≡ true → v.present n ≡ true) → is_in n (names_after (or_trap q) g) ≡ true → v.present n ≡ true
+present_check : (v : View) (n : ℕ) (q : Result ℕ (ℕ × ℕ)) (f : ℕ → Result State Stop) (g : ℕ → List ℕ)
+    → ((t : Selector) → (or_trap q >>= f) ≡ Err (stop.Miss t) → ⊥)
+    → ((x : ℕ) → ((t : Selector) → f x ≡ Err (stop.Miss t) → ⊥) → is_in n (g x) ≡ true → v.present n ≡ true)
+    → is_in n (names_after (or_trap q) g) ≡ true → v.present n ≡ true
 present_check v n (Ok x) f g clear h e = h x clear e
 present_check v n (Err d) f g clear h e = absurd (false≢true e)
 
-present_load : (v : View) (n s next : ℕ) (a b : Loaded) (r : Result State Stop) (ns : List ℕ) → Probes v s a b → (a ≡ loaded.Done → is_loadable v (selector s) ≡ true) → ((t : Selector) → (passed next a >>= (λ (_ : ℕ). r)) ≡ Err (stop.Miss t) → ⊥) → (((t : Selector) → r ≡ Err (stop.Miss t) → ⊥) → is_in n ns ≡ true → v.present n ≡ true) → is_in n (names_after (passed next b) (λ _. hold_name (found v s) ++ ns)) ≡ true → v.present n ≡ true
+present_load : (v : View) (n s next : ℕ) (a b : Loaded) (r : Result State Stop) (ns : List ℕ) → Probes v s a b
+    → (a ≡ loaded.Done → is_loadable v (selector s) ≡ true) → ((t : Selector) → (passed next a >>= (λ (_ : ℕ). r)) ≡ Err (stop.Miss t) → ⊥)
+    → (((t : Selector) → r ≡ Err (stop.Miss t) → ⊥) → is_in n ns ≡ true → v.present n ≡ true)
+    → is_in n (names_after (passed next b) (λ _. hold_name (found v s) ++ ns)) ≡ true → v.present n ≡ true
 present_load v n s next loaded.Done b r ns p l clear h e =
     split_in (hold_name (found v s)) ns n (v.present n ≡ true) (hold_present v s n (l refl)) (h clear)
     (subst (λ (z : Loaded). is_in n (names_after (passed next z) (λ _. hold_name (found v s) ++ ns)) ≡ true) p e)

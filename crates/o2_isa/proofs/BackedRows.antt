@@ -5,7 +5,15 @@ use Rattle.std.specs.Prelude.{not, ◌||◌, ◌&&◌}
 use Rattle.o2_isa.specs.declared.instr.Width.TheVariants.{Word}
 use Rattle.o2_isa.specs.declared.instr.Sreg.TheVariants.{Es, Ds}
 use Rattle.o2_isa.specs.declared.instr.Op.{Op}
-use Rattle.o2_isa.specs.declared.instr.Op.TheVariants.{OpAdd, OpOr, OpAdc, OpSbb, OpAnd, OpSub, OpXor, OpCmp, OpTest, OpInc, OpDec, OpNeg, OpNot, OpRol, OpRor, OpRcl, OpRcr, OpShl, OpShr, OpSar, OpMul, OpImul, OpImulThree, OpDiv, OpIdiv, OpDaa, OpDas, OpAaa, OpAas, OpAam, OpAad, OpMov, OpXchg, OpLea, OpLes, OpLds, OpXlat, OpCbw, OpCwd, OpPush, OpPop, OpPusha, OpPopa, OpPushf, OpPopf, OpClc, OpStc, OpCmc, OpCld, OpStd, OpSahf, OpLahf, OpWait, OpMovs, OpCmps, OpStos, OpLods, OpScas, OpJo, OpJno, OpJb, OpJae, OpJe, OpJne, OpJbe, OpJa, OpJs, OpJns, OpJp, OpJnp, OpJl, OpJge, OpJle, OpJg, OpLoop, OpLoope, OpLoopne, OpJcxz, OpJmp, OpJmpAt, OpJmpFar, OpJmpFarAt, OpCall, OpCallAt, OpCallFar, OpCallFarAt, OpRet, OpRetf, OpIret, OpInt, OpIntThree, OpInto, OpBound, OpEnter, OpLeave, OpLar, OpLsl, OpVerr, OpVerw, OpArpl, OpEsc, OpIn, OpOut, OpIns, OpOuts, OpCli, OpSti, OpHlt, OpLldt, OpLtr, OpLgdt, OpLidt, OpLmsw, OpClts, OpSldt, OpStr, OpSgdt, OpSidt, OpSmsw}
+use Rattle.o2_isa.specs.declared.instr.Op.TheVariants.{OpAdd, OpOr, OpAdc, OpSbb, OpAnd, OpSub, OpXor, OpCmp, OpTest, OpInc, OpDec, OpNeg, OpNot, OpRol, OpRor, OpRcl}
+use Rattle.o2_isa.specs.declared.instr.Op.TheVariants.{OpRcr, OpShl, OpShr, OpSar, OpMul, OpImul, OpImulThree, OpDiv, OpIdiv, OpDaa, OpDas, OpAaa, OpAas, OpAam, OpAad}
+use Rattle.o2_isa.specs.declared.instr.Op.TheVariants.{OpMov, OpXchg, OpLea, OpLes, OpLds, OpXlat, OpCbw, OpCwd, OpPush, OpPop, OpPusha, OpPopa, OpPushf, OpPopf, OpClc}
+use Rattle.o2_isa.specs.declared.instr.Op.TheVariants.{OpStc, OpCmc, OpCld, OpStd, OpSahf, OpLahf, OpWait, OpMovs, OpCmps, OpStos, OpLods, OpScas, OpJo, OpJno, OpJb}
+use Rattle.o2_isa.specs.declared.instr.Op.TheVariants.{OpJae, OpJe, OpJne, OpJbe, OpJa, OpJs, OpJns, OpJp, OpJnp, OpJl, OpJge, OpJle, OpJg, OpLoop, OpLoope, OpLoopne}
+use Rattle.o2_isa.specs.declared.instr.Op.TheVariants.{OpJcxz, OpJmp, OpJmpAt, OpJmpFar, OpJmpFarAt, OpCall, OpCallAt, OpCallFar, OpCallFarAt, OpRet, OpRetf, OpIret}
+use Rattle.o2_isa.specs.declared.instr.Op.TheVariants.{OpInt, OpIntThree, OpInto, OpBound, OpEnter, OpLeave, OpLar, OpLsl, OpVerr, OpVerw, OpArpl, OpEsc, OpIn, OpOut}
+use Rattle.o2_isa.specs.declared.instr.Op.TheVariants.{OpIns, OpOuts, OpCli, OpSti, OpHlt, OpLldt, OpLtr, OpLgdt, OpLidt, OpLmsw, OpClts, OpSldt, OpStr, OpSgdt, OpSidt}
+use Rattle.o2_isa.specs.declared.instr.Op.TheVariants.{OpSmsw}
 use Rattle.o2_isa.specs.declared.families.BinaryOp.TheVariants as two
 use Rattle.o2_isa.specs.declared.families.UnaryOp.TheVariants as one
 use Rattle.o2_isa.specs.declared.families.ShiftOp.TheVariants as turn
@@ -18,8 +26,12 @@ use Rattle.o2_isa.specs.View.{is_readable, is_writable}
 use Rattle.o2_isa.specs.FlowJumps.{is_less}
 use Rattle.o2_isa.specs.OpRows.{op_steps}
 use Rattle.o2_isa.proofs.Backing.{Ground, IsBacked, valued_backed, pair_backed}
-use Rattle.o2_isa.proofs.BackedData.{names_cs, puts_selector, binary_backed, unary_backed, shift_backed, mul_backed, imul_three_backed, div_backed, adjust_backed, mov_backed, xchg_backed, lea_backed, load_pointer_backed, xlat_backed, push_backed, pop_backed, cbw_backed, cwd_backed, flagging_backed, sahf_backed, lahf_backed, wait_backed, pusha_backed, popf_backed, popa_backed, pushf_backed}
-use Rattle.o2_isa.proofs.BackedFlow.{jmp_backed, jmp_if_backed, jcc_backed, loop_backed, jmp_far_backed, call_backed, call_far_backed, ret_backed, retf_backed, iret_backed, trap_if_backed, bound_backed, enter_backed, leave_backed, lar_backed, lsl_backed, verify_backed, arpl_backed, movs_backed, cmps_backed, stos_backed, lods_backed, scas_backed}
+use Rattle.o2_isa.proofs.BackedData.{names_cs, puts_selector, binary_backed, unary_backed, shift_backed, mul_backed, imul_three_backed, div_backed, adjust_backed}
+use Rattle.o2_isa.proofs.BackedData.{mov_backed, xchg_backed, lea_backed, load_pointer_backed, xlat_backed, push_backed, pop_backed, cbw_backed, cwd_backed}
+use Rattle.o2_isa.proofs.BackedData.{flagging_backed, sahf_backed, lahf_backed, wait_backed, pusha_backed, popf_backed, popa_backed, pushf_backed}
+use Rattle.o2_isa.proofs.BackedFlow.{jmp_backed, jmp_if_backed, jcc_backed, loop_backed, jmp_far_backed, call_backed, call_far_backed, ret_backed, retf_backed}
+use Rattle.o2_isa.proofs.BackedFlow.{iret_backed, trap_if_backed, bound_backed, enter_backed, leave_backed, lar_backed, lsl_backed, verify_backed, arpl_backed}
+use Rattle.o2_isa.proofs.BackedFlow.{movs_backed, cmps_backed, stos_backed, lods_backed, scas_backed}
 
 pub op_backed : (v : Ground) (op : Op) (c : Cpu) (i : Instr) (next : ℕ) → (puts_selector op && names_cs i.left) ≡ false → IsBacked v (op_steps op c i next)
 op_backed v OpAdd c i next e = binary_backed v two.Add c i next

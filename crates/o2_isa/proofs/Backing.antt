@@ -215,10 +215,14 @@ run_ruled g c n (Ends d cs) t row backed among e = subst (λ (z : State). LoadsG
 
     same : state d (changed cs g.view) ≡ t
     same = ap state_in e
-run_ruled g c n (Reads r k w f) t row backed among e = checked_value _ (or_trap (read_of g.view r k w)) (λ x. run (f x) g.view) t (λ x is q. run_ruled g c n (f x) t (row x) (backed x) (among_checked (or_trap (read_of g.view r k w)) (λ x. loaded_names (f x) g.view) x g.names is among) q) e
+run_ruled g c n (Reads r k w f) t row backed among e = checked_value _ (or_trap (read_of g.view r k w)) (λ x. run (f x) g.view) t
+    (λ x is q. run_ruled g c n (f x) t (row x) (backed x)
+    (among_checked (or_trap (read_of g.view r k w)) (λ x. loaded_names (f x) g.view) x g.names is among) q) e
 run_ruled g c n (Room r k w p) t row backed among e = checked_value _ (or_trap (room_of g.view r k w)) (λ x. run p g.view) t (λ x is q. run_ruled g c n p t row backed (among_checked (or_trap (room_of g.view r k w)) (λ x. loaded_names p g.view) x g.names is among) q) e
 run_ruled g c zero (Loads purpose s next p) t row backed among e = absurd row
-run_ruled g c (suc n) (Loads purpose s next p) t row backed among e = loads _ next (probe_of g.view purpose (selector s)) (run p g.view) t (λ d q. run_ruled g c n p t row (backed (d, λ m i. all d m (in_left (hold_name (found g.view s)) (loaded_names p g.view) m i))) (λ m i. all d m (in_right (hold_name (found g.view s)) (loaded_names p g.view) m i)) q) e
+run_ruled g c (suc n) (Loads purpose s next p) t row backed among e = loads _ next (probe_of g.view purpose (selector s)) (run p g.view) t
+    (λ d q. run_ruled g c n p t row (backed (d, λ m i. all d m (in_left (hold_name (found g.view s)) (loaded_names p g.view) m i)))
+    (λ m i. all d m (in_right (hold_name (found g.view s)) (loaded_names p g.view) m i)) q) e
   where
     all : probe_of g.view purpose (selector s) ≡ loaded.Done → Among (hold_name (found g.view s) ++ loaded_names p g.view) g.names
     all d = among_checked (passed next (probe_of g.view purpose (selector s))) (λ _. hold_name (found g.view s) ++ loaded_names p g.view) 0 g.names (ap (passed next) d) among

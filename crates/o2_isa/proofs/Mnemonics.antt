@@ -5,7 +5,15 @@ use Rattle.std.specs.Prelude.{not, ◌||◌, Ok, Err}
 use Rattle.o2_isa.specs.declared.instr.Width.TheVariants.{Word}
 use Rattle.o2_isa.specs.declared.instr.Sreg.TheVariants.{Es, Ds}
 use Rattle.o2_isa.specs.declared.instr.Op.{Op}
-use Rattle.o2_isa.specs.declared.instr.Op.TheVariants.{OpAdd, OpOr, OpAdc, OpSbb, OpAnd, OpSub, OpXor, OpCmp, OpTest, OpInc, OpDec, OpNeg, OpNot, OpRol, OpRor, OpRcl, OpRcr, OpShl, OpShr, OpSar, OpMul, OpImul, OpImulThree, OpDiv, OpIdiv, OpDaa, OpDas, OpAaa, OpAas, OpAam, OpAad, OpMov, OpXchg, OpLea, OpLes, OpLds, OpXlat, OpCbw, OpCwd, OpPush, OpPop, OpPusha, OpPopa, OpPushf, OpPopf, OpClc, OpStc, OpCmc, OpCld, OpStd, OpSahf, OpLahf, OpWait, OpMovs, OpCmps, OpStos, OpLods, OpScas, OpJo, OpJno, OpJb, OpJae, OpJe, OpJne, OpJbe, OpJa, OpJs, OpJns, OpJp, OpJnp, OpJl, OpJge, OpJle, OpJg, OpLoop, OpLoope, OpLoopne, OpJcxz, OpJmp, OpJmpAt, OpJmpFar, OpJmpFarAt, OpCall, OpCallAt, OpCallFar, OpCallFarAt, OpRet, OpRetf, OpIret, OpInt, OpIntThree, OpInto, OpBound, OpEnter, OpLeave, OpLar, OpLsl, OpVerr, OpVerw, OpArpl, OpEsc, OpIn, OpOut, OpIns, OpOuts, OpCli, OpSti, OpHlt, OpLldt, OpLtr, OpLgdt, OpLidt, OpLmsw, OpClts, OpSldt, OpStr, OpSgdt, OpSidt, OpSmsw}
+use Rattle.o2_isa.specs.declared.instr.Op.TheVariants.{OpAdd, OpOr, OpAdc, OpSbb, OpAnd, OpSub, OpXor, OpCmp, OpTest, OpInc, OpDec, OpNeg, OpNot, OpRol, OpRor, OpRcl}
+use Rattle.o2_isa.specs.declared.instr.Op.TheVariants.{OpRcr, OpShl, OpShr, OpSar, OpMul, OpImul, OpImulThree, OpDiv, OpIdiv, OpDaa, OpDas, OpAaa, OpAas, OpAam, OpAad}
+use Rattle.o2_isa.specs.declared.instr.Op.TheVariants.{OpMov, OpXchg, OpLea, OpLes, OpLds, OpXlat, OpCbw, OpCwd, OpPush, OpPop, OpPusha, OpPopa, OpPushf, OpPopf, OpClc}
+use Rattle.o2_isa.specs.declared.instr.Op.TheVariants.{OpStc, OpCmc, OpCld, OpStd, OpSahf, OpLahf, OpWait, OpMovs, OpCmps, OpStos, OpLods, OpScas, OpJo, OpJno, OpJb}
+use Rattle.o2_isa.specs.declared.instr.Op.TheVariants.{OpJae, OpJe, OpJne, OpJbe, OpJa, OpJs, OpJns, OpJp, OpJnp, OpJl, OpJge, OpJle, OpJg, OpLoop, OpLoope, OpLoopne}
+use Rattle.o2_isa.specs.declared.instr.Op.TheVariants.{OpJcxz, OpJmp, OpJmpAt, OpJmpFar, OpJmpFarAt, OpCall, OpCallAt, OpCallFar, OpCallFarAt, OpRet, OpRetf, OpIret}
+use Rattle.o2_isa.specs.declared.instr.Op.TheVariants.{OpInt, OpIntThree, OpInto, OpBound, OpEnter, OpLeave, OpLar, OpLsl, OpVerr, OpVerw, OpArpl, OpEsc, OpIn, OpOut}
+use Rattle.o2_isa.specs.declared.instr.Op.TheVariants.{OpIns, OpOuts, OpCli, OpSti, OpHlt, OpLldt, OpLtr, OpLgdt, OpLidt, OpLmsw, OpClts, OpSldt, OpStr, OpSgdt, OpSidt}
+use Rattle.o2_isa.specs.declared.instr.Op.TheVariants.{OpSmsw}
 use Rattle.o2_isa.specs.declared.families.BinaryOp.TheVariants as two
 use Rattle.o2_isa.specs.declared.families.UnaryOp.TheVariants as one
 use Rattle.o2_isa.specs.declared.families.ShiftOp.TheVariants as turn
@@ -21,7 +29,9 @@ use Rattle.o2_isa.specs.OpRows.{op_steps}
 use Rattle.o2_isa.specs.Meaning.{behind, steps_of}
 use Rattle.o2_isa.specs.Presence.{IsRow}
 use Rattle.o2_isa.proofs.RowParts.{kept, valued_row, pair_row}
-use Rattle.o2_isa.proofs.DataMnemonics.{binary_row, unary_row, shift_row, mul_row, imul_three_row, div_row, adjust_row, mov_row, xchg_row, lea_row, load_pointer_row, xlat_row, cbw_row, cwd_row, push_row, pushf_row, pop_row, popf_row, pusha_row, popa_row, flagging_row, sahf_row, lahf_row, wait_row}
+use Rattle.o2_isa.proofs.DataMnemonics.{binary_row, unary_row, shift_row, mul_row, imul_three_row, div_row, adjust_row, mov_row, xchg_row, lea_row, load_pointer_row}
+use Rattle.o2_isa.proofs.DataMnemonics.{xlat_row, cbw_row, cwd_row, push_row, pushf_row, pop_row, popf_row, pusha_row, popa_row, flagging_row, sahf_row, lahf_row}
+use Rattle.o2_isa.proofs.DataMnemonics.{wait_row}
 use Rattle.o2_isa.proofs.FlowMnemonics.{jmp_row, jmp_if_row, jcc_row, loop_row, jmp_far_row, call_row, call_far_row, ret_row, retf_row, iret_row, interrupt_row, trap_if_row, bound_row, enter_row, leave_row, lar_row, lsl_row, verify_row, arpl_row}
 use Rattle.o2_isa.proofs.StringMnemonics.{movs_row, cmps_row, stos_row, lods_row, scas_row}
 

@@ -1,7 +1,9 @@
 -- What the fields of an instruction are where they mean nothing.
 use Rattle.std.specs.Prelude.{◌≡◌, Bool, true, false}
 use Rattle.o2_isa.specs.declared.instr.Op.{Op}
-use Rattle.o2_isa.specs.declared.instr.Op.TheVariants.{OpAdd, OpOr, OpAdc, OpSbb, OpAnd, OpSub, OpXor, OpCmp, OpInc, OpDec, OpIns, OpOuts, OpTest, OpXchg, OpMov, OpMovs, OpCmps, OpStos, OpLods, OpScas, OpRol, OpRor, OpRcl, OpRcr, OpShl, OpShr, OpSar, OpXlat, OpIn, OpOut, OpNot, OpNeg, OpMul, OpImul, OpDiv, OpIdiv}
+use Rattle.o2_isa.specs.declared.instr.Op.TheVariants.{OpAdd, OpOr, OpAdc, OpSbb, OpAnd, OpSub, OpXor, OpCmp, OpInc, OpDec, OpIns, OpOuts, OpTest, OpXchg, OpMov, OpMovs}
+use Rattle.o2_isa.specs.declared.instr.Op.TheVariants.{OpCmps, OpStos, OpLods, OpScas, OpRol, OpRor, OpRcl, OpRcr, OpShl, OpShr, OpSar, OpXlat, OpIn, OpOut, OpNot, OpNeg}
+use Rattle.o2_isa.specs.declared.instr.Op.TheVariants.{OpMul, OpImul, OpDiv, OpIdiv}
 use Rattle.o2_isa.specs.declared.instr.Width.TheVariants.{Word}
 use Rattle.o2_isa.specs.declared.instr.Rep.TheVariants.{No, NotEqual}
 use Rattle.o2_isa.specs.declared.instr.Sreg.TheVariants.{Ds}

@@ -1,7 +1,15 @@
 -- What instructions mean, and which crate executes which.
 use Rattle.std.specs.Prelude.{ℕ, if◌then◌else◌, Result, Ok, Err}
 use Rattle.o2_isa.specs.declared.instr.Op.{Op}
-use Rattle.o2_isa.specs.declared.instr.Op.TheVariants.{OpJo, OpJno, OpJb, OpJae, OpJe, OpJne, OpJbe, OpJa, OpJs, OpJns, OpJp, OpJnp, OpJl, OpJge, OpJle, OpJg, OpLoop, OpLoope, OpLoopne, OpJcxz, OpJmp, OpJmpFar, OpJmpAt, OpJmpFarAt, OpCall, OpCallFar, OpCallAt, OpCallFarAt, OpRet, OpRetf, OpIret, OpInt, OpIntThree, OpInto, OpBound, OpEnter, OpLeave, OpLar, OpLsl, OpVerr, OpVerw, OpArpl, OpEsc, OpIn, OpOut, OpIns, OpOuts, OpCli, OpSti, OpHlt, OpSldt, OpStr, OpLldt, OpLtr, OpSgdt, OpSidt, OpLgdt, OpLidt, OpSmsw, OpLmsw, OpClts, OpMovs, OpCmps, OpStos, OpLods, OpScas, OpAdd, OpOr, OpAdc, OpSbb, OpAnd, OpSub, OpXor, OpCmp, OpPush, OpPop, OpDaa, OpDas, OpAaa, OpAas, OpInc, OpDec, OpPusha, OpPopa, OpImulThree, OpTest, OpXchg, OpMov, OpLea, OpCbw, OpCwd, OpWait, OpPushf, OpPopf, OpSahf, OpLahf, OpRol, OpRor, OpRcl, OpRcr, OpShl, OpShr, OpSar, OpLes, OpLds, OpAam, OpAad, OpXlat, OpCmc, OpClc, OpStc, OpCld, OpStd, OpNot, OpNeg, OpMul, OpImul, OpDiv, OpIdiv}
+use Rattle.o2_isa.specs.declared.instr.Op.TheVariants.{OpJo, OpJno, OpJb, OpJae, OpJe, OpJne, OpJbe, OpJa, OpJs, OpJns, OpJp, OpJnp, OpJl, OpJge, OpJle, OpJg, OpLoop}
+use Rattle.o2_isa.specs.declared.instr.Op.TheVariants.{OpLoope, OpLoopne, OpJcxz, OpJmp, OpJmpFar, OpJmpAt, OpJmpFarAt, OpCall, OpCallFar, OpCallAt, OpCallFarAt, OpRet}
+use Rattle.o2_isa.specs.declared.instr.Op.TheVariants.{OpRetf, OpIret, OpInt, OpIntThree, OpInto, OpBound, OpEnter, OpLeave, OpLar, OpLsl, OpVerr, OpVerw, OpArpl, OpEsc}
+use Rattle.o2_isa.specs.declared.instr.Op.TheVariants.{OpIn, OpOut, OpIns, OpOuts, OpCli, OpSti, OpHlt, OpSldt, OpStr, OpLldt, OpLtr, OpSgdt, OpSidt, OpLgdt, OpLidt}
+use Rattle.o2_isa.specs.declared.instr.Op.TheVariants.{OpSmsw, OpLmsw, OpClts, OpMovs, OpCmps, OpStos, OpLods, OpScas, OpAdd, OpOr, OpAdc, OpSbb, OpAnd, OpSub, OpXor}
+use Rattle.o2_isa.specs.declared.instr.Op.TheVariants.{OpCmp, OpPush, OpPop, OpDaa, OpDas, OpAaa, OpAas, OpInc, OpDec, OpPusha, OpPopa, OpImulThree, OpTest, OpXchg}
+use Rattle.o2_isa.specs.declared.instr.Op.TheVariants.{OpMov, OpLea, OpCbw, OpCwd, OpWait, OpPushf, OpPopf, OpSahf, OpLahf, OpRol, OpRor, OpRcl, OpRcr, OpShl, OpShr}
+use Rattle.o2_isa.specs.declared.instr.Op.TheVariants.{OpSar, OpLes, OpLds, OpAam, OpAad, OpXlat, OpCmc, OpClc, OpStc, OpCld, OpStd, OpNot, OpNeg, OpMul, OpImul, OpDiv}
+use Rattle.o2_isa.specs.declared.instr.Op.TheVariants.{OpIdiv}
 use Rattle.o2_isa.specs.declared.instr.Instr.{Instr}
 use Rattle.o2_isa.specs.declared.groups.Group.{Group}
 use Rattle.o2_isa.specs.declared.groups.Group.TheVariants.{Data, Flow, Strings}

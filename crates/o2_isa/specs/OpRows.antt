@@ -3,7 +3,15 @@ use Rattle.std.specs.Prelude.{ℕ, ◌==◌, ◌||◌, true, false, not}
 use Rattle.o2_isa.specs.declared.instr.Width.TheVariants.{Word}
 use Rattle.o2_isa.specs.declared.instr.Sreg.TheVariants.{Es, Ds}
 use Rattle.o2_isa.specs.declared.instr.Op.{Op}
-use Rattle.o2_isa.specs.declared.instr.Op.TheVariants.{OpAdd, OpOr, OpAdc, OpSbb, OpAnd, OpSub, OpXor, OpCmp, OpTest, OpInc, OpDec, OpNeg, OpNot, OpRol, OpRor, OpRcl, OpRcr, OpShl, OpShr, OpSar, OpMul, OpImul, OpImulThree, OpDiv, OpIdiv, OpDaa, OpDas, OpAaa, OpAas, OpAam, OpAad, OpMov, OpXchg, OpLea, OpLes, OpLds, OpXlat, OpCbw, OpCwd, OpPush, OpPop, OpPusha, OpPopa, OpPushf, OpPopf, OpClc, OpStc, OpCmc, OpCld, OpStd, OpSahf, OpLahf, OpWait, OpMovs, OpCmps, OpStos, OpLods, OpScas, OpJo, OpJno, OpJb, OpJae, OpJe, OpJne, OpJbe, OpJa, OpJs, OpJns, OpJp, OpJnp, OpJl, OpJge, OpJle, OpJg, OpLoop, OpLoope, OpLoopne, OpJcxz, OpJmp, OpJmpAt, OpJmpFar, OpJmpFarAt, OpCall, OpCallAt, OpCallFar, OpCallFarAt, OpRet, OpRetf, OpIret, OpInt, OpIntThree, OpInto, OpBound, OpEnter, OpLeave, OpLar, OpLsl, OpVerr, OpVerw, OpArpl, OpEsc, OpIn, OpOut, OpIns, OpOuts, OpCli, OpSti, OpHlt, OpLldt, OpLtr, OpLgdt, OpLidt, OpLmsw, OpClts, OpSldt, OpStr, OpSgdt, OpSidt, OpSmsw}
+use Rattle.o2_isa.specs.declared.instr.Op.TheVariants.{OpAdd, OpOr, OpAdc, OpSbb, OpAnd, OpSub, OpXor, OpCmp, OpTest, OpInc, OpDec, OpNeg, OpNot, OpRol, OpRor, OpRcl}
+use Rattle.o2_isa.specs.declared.instr.Op.TheVariants.{OpRcr, OpShl, OpShr, OpSar, OpMul, OpImul, OpImulThree, OpDiv, OpIdiv, OpDaa, OpDas, OpAaa, OpAas, OpAam, OpAad}
+use Rattle.o2_isa.specs.declared.instr.Op.TheVariants.{OpMov, OpXchg, OpLea, OpLes, OpLds, OpXlat, OpCbw, OpCwd, OpPush, OpPop, OpPusha, OpPopa, OpPushf, OpPopf, OpClc}
+use Rattle.o2_isa.specs.declared.instr.Op.TheVariants.{OpStc, OpCmc, OpCld, OpStd, OpSahf, OpLahf, OpWait, OpMovs, OpCmps, OpStos, OpLods, OpScas, OpJo, OpJno, OpJb}
+use Rattle.o2_isa.specs.declared.instr.Op.TheVariants.{OpJae, OpJe, OpJne, OpJbe, OpJa, OpJs, OpJns, OpJp, OpJnp, OpJl, OpJge, OpJle, OpJg, OpLoop, OpLoope, OpLoopne}
+use Rattle.o2_isa.specs.declared.instr.Op.TheVariants.{OpJcxz, OpJmp, OpJmpAt, OpJmpFar, OpJmpFarAt, OpCall, OpCallAt, OpCallFar, OpCallFarAt, OpRet, OpRetf, OpIret}
+use Rattle.o2_isa.specs.declared.instr.Op.TheVariants.{OpInt, OpIntThree, OpInto, OpBound, OpEnter, OpLeave, OpLar, OpLsl, OpVerr, OpVerw, OpArpl, OpEsc, OpIn, OpOut}
+use Rattle.o2_isa.specs.declared.instr.Op.TheVariants.{OpIns, OpOuts, OpCli, OpSti, OpHlt, OpLldt, OpLtr, OpLgdt, OpLidt, OpLmsw, OpClts, OpSldt, OpStr, OpSgdt, OpSidt}
+use Rattle.o2_isa.specs.declared.instr.Op.TheVariants.{OpSmsw}
 use Rattle.o2_isa.specs.declared.families.BinaryOp.TheVariants as two
 use Rattle.o2_isa.specs.declared.families.UnaryOp.TheVariants as one
 use Rattle.o2_isa.specs.declared.families.ShiftOp.TheVariants as turn

@@ -12,7 +12,9 @@ unfoldable pub reg16 : Cpu → ℕ → ℕ
 reg16 c n = if n == 0 then c.ax else if n == 1 then c.cx else if n == 2 then c.dx else if n == 3 then c.bx else if n == 4 then c.sp else if n == 5 then c.bp else if n == 6 then c.si else c.di
 
 unfoldable pub with_reg16 : Cpu → ℕ → ℕ → Cpu
-with_reg16 c n x = if n == 0 then record c { ax = x } else if n == 1 then record c { cx = x } else if n == 2 then record c { dx = x } else if n == 3 then record c { bx = x } else if n == 4 then record c { sp = x } else if n == 5 then record c { bp = x } else if n == 6 then record c { si = x } else record c { di = x }
+with_reg16 c n x = if n == 0 then record c { ax = x } else if n == 1 then record c { cx = x } else if n == 2 then record c { dx = x }
+    else if n == 3 then record c { bx = x } else if n == 4 then record c { sp = x } else if n == 5 then record c { bp = x } else if n == 6
+    then record c { si = x } else record c { di = x }
 
 -- AL CL DL BL AH CH DH BH
 unfoldable pub reg8 : Cpu → ℕ → ℕ

@@ -21,7 +21,9 @@ no_prefixes = record { seg = None; rep = No; lock = false }
 
 -- the prefixes with one more; of segments and of repeats the last counts
 unfoldable pub mark : Prefixes → ℕ → Prefixes
-mark p b = if b == 38 then record p { seg = Some Es } else if b == 46 then record p { seg = Some Cs } else if b == 54 then record p { seg = Some Ss } else if b == 62 then record p { seg = Some Ds } else if b == 240 then record p { lock = true } else if b == 242 then record p { rep = NotEqual } else if b == 243 then record p { rep = Equal } else p
+mark p b = if b == 38 then record p { seg = Some Es } else if b == 46 then record p { seg = Some Cs } else if b == 54
+    then record p { seg = Some Ss } else if b == 62 then record p { seg = Some Ds } else if b == 240 then record p { lock = true }
+    else if b == 242 then record p { rep = NotEqual } else if b == 243 then record p { rep = Equal } else p
 
 abbrev pub marks : Prefixes → List ℕ → Prefixes
 marks p [] = p

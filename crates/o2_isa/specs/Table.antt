@@ -4,7 +4,14 @@ use Rattle.o2_isa.specs.declared.rows.Entry.{Entry}
 use Rattle.o2_isa.specs.declared.rows.Entry.TheVariants.{Unused, Bare, Modrm, Group}
 use Rattle.o2_isa.specs.declared.rows.Row.{Row}
 use Rattle.o2_isa.specs.declared.instr.Op.{Op}
-use Rattle.o2_isa.specs.declared.instr.Op.TheVariants.{OpAdd, OpOr, OpAdc, OpSbb, OpAnd, OpSub, OpXor, OpCmp, OpPush, OpPop, OpDaa, OpDas, OpAaa, OpAas, OpInc, OpDec, OpPusha, OpPopa, OpBound, OpArpl, OpImulThree, OpIns, OpOuts, OpJo, OpJno, OpJb, OpJae, OpJe, OpJne, OpJbe, OpJa, OpJs, OpJns, OpJp, OpJnp, OpJl, OpJge, OpJle, OpJg, OpTest, OpXchg, OpMov, OpLea, OpCbw, OpCwd, OpCallFar, OpWait, OpPushf, OpPopf, OpSahf, OpLahf, OpMovs, OpCmps, OpStos, OpLods, OpScas, OpRol, OpRor, OpRcl, OpRcr, OpShl, OpShr, OpSar, OpRet, OpRetf, OpIret, OpLes, OpLds, OpEnter, OpLeave, OpIntThree, OpInt, OpInto, OpAam, OpAad, OpXlat, OpEsc, OpLoopne, OpLoope, OpLoop, OpJcxz, OpIn, OpOut, OpCall, OpJmp, OpJmpFar, OpHlt, OpCmc, OpClc, OpStc, OpCli, OpSti, OpCld, OpStd, OpNot, OpNeg, OpMul, OpImul, OpDiv, OpIdiv, OpCallAt, OpCallFarAt, OpJmpAt, OpJmpFarAt, OpSldt, OpStr, OpLldt, OpLtr, OpVerr, OpVerw, OpSgdt, OpSidt, OpLgdt, OpLidt, OpSmsw, OpLmsw, OpLar, OpLsl, OpClts}
+use Rattle.o2_isa.specs.declared.instr.Op.TheVariants.{OpAdd, OpOr, OpAdc, OpSbb, OpAnd, OpSub, OpXor, OpCmp, OpPush, OpPop, OpDaa, OpDas, OpAaa, OpAas, OpInc, OpDec}
+use Rattle.o2_isa.specs.declared.instr.Op.TheVariants.{OpPusha, OpPopa, OpBound, OpArpl, OpImulThree, OpIns, OpOuts, OpJo, OpJno, OpJb, OpJae, OpJe, OpJne, OpJbe, OpJa}
+use Rattle.o2_isa.specs.declared.instr.Op.TheVariants.{OpJs, OpJns, OpJp, OpJnp, OpJl, OpJge, OpJle, OpJg, OpTest, OpXchg, OpMov, OpLea, OpCbw, OpCwd, OpCallFar, OpWait}
+use Rattle.o2_isa.specs.declared.instr.Op.TheVariants.{OpPushf, OpPopf, OpSahf, OpLahf, OpMovs, OpCmps, OpStos, OpLods, OpScas, OpRol, OpRor, OpRcl, OpRcr, OpShl, OpShr}
+use Rattle.o2_isa.specs.declared.instr.Op.TheVariants.{OpSar, OpRet, OpRetf, OpIret, OpLes, OpLds, OpEnter, OpLeave, OpIntThree, OpInt, OpInto, OpAam, OpAad, OpXlat}
+use Rattle.o2_isa.specs.declared.instr.Op.TheVariants.{OpEsc, OpLoopne, OpLoope, OpLoop, OpJcxz, OpIn, OpOut, OpCall, OpJmp, OpJmpFar, OpHlt, OpCmc, OpClc, OpStc, OpCli}
+use Rattle.o2_isa.specs.declared.instr.Op.TheVariants.{OpSti, OpCld, OpStd, OpNot, OpNeg, OpMul, OpImul, OpDiv, OpIdiv, OpCallAt, OpCallFarAt, OpJmpAt, OpJmpFarAt}
+use Rattle.o2_isa.specs.declared.instr.Op.TheVariants.{OpSldt, OpStr, OpLldt, OpLtr, OpVerr, OpVerw, OpSgdt, OpSidt, OpLgdt, OpLidt, OpSmsw, OpLmsw, OpLar, OpLsl, OpClts}
 use Rattle.o2_isa.specs.declared.instr.Width.{Width}
 use Rattle.o2_isa.specs.declared.instr.Width.TheVariants.{Byte, Word}
 use Rattle.o2_isa.specs.declared.rows.Slot.{Slot}

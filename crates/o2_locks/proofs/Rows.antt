@@ -77,7 +77,9 @@ done_matches p w t id n m e same q =
     subst (λ (x : Ruling). Matches (record p { shelf = t }) (with_all w x.changes)) (sym e) (subst (λ (x : ℕ). Matches (record p { shelf = t }) (with_change w (Locks id.age x))) same q)
 
 -- the same where segments have come and gone
-pub locked_matches : (p : Parts) (w : World) (t : Shelf) (n : Maps) (block : ℕ → List ℕ) (id : SegId) (lock m : ℕ) (r : Ruling) → r ≡ grants 0 (Locks id.age lock ∷ []) → m ≡ lock → Matches (moved p t n block) (with_change w (Locks id.age m)) → Matches (moved p t n block) (with_all w r.changes)
+pub locked_matches : (p : Parts) (w : World) (t : Shelf) (n : Maps) (block : ℕ → List ℕ) (id : SegId) (lock m : ℕ) (r : Ruling) → r
+    ≡ grants 0 (Locks id.age lock ∷ []) → m ≡ lock → Matches (moved p t n block) (with_change w (Locks id.age m))
+    → Matches (moved p t n block) (with_all w r.changes)
 unfolding with_changes
 locked_matches p w t n block id lock m r e same q =
     subst (λ (x : Ruling). Matches (moved p t n block) (with_all w x.changes)) (sym e) (subst (λ (x : ℕ). Matches (moved p t n block) (with_change w (Locks id.age x))) same q)

@@ -469,7 +469,9 @@ module _ (m n : Machine) (device : ℕ) (block : ℕ → List ℕ) (s : Setting)
   spent_in_part pick g = let both = some_lives pick in closed_in_part _ (rw (both.0, both.1) refl) (rw (both.0, both.1) refl) g
 
 -- what a machine stands for doesn't depend on the answer that it keeps
-stop_moves : (f g : World → Type 0) → ((w : World) → f w → g w) → (swaps : Bool) (blocks : ℕ) (s : Setting) (w : World) (put : Bool) (i c d r q : Option (List ℕ)) (why : Stop) → IsStopped f swaps blocks s w why put i c d r q → IsStopped g swaps blocks s w why put i c d r q
+stop_moves : (f g : World → Type 0) → ((w : World) → f w → g w)
+    → (swaps : Bool) (blocks : ℕ) (s : Setting) (w : World) (put : Bool) (i c d r q : Option (List ℕ)) (why : Stop)
+    → IsStopped f swaps blocks s w why put i c d r q → IsStopped g swaps blocks s w why put i c d r q
 stop_moves f g h swaps blocks s w put i c d r q why x = record { runs = x.runs; cause = x.cause; fits = x.fits; stands = h w x.stands; input = x.input; to_console = x.to_console; to_report = x.to_report; whole = x.whole }
 
 turns_move : (f g : World → Type 0) → ((w : World) → f w → g w) → (swaps : Bool) (blocks : ℕ) (s : Setting) (w : World) (put : Bool) (i c d r q : Option (List ℕ)) (t : Turn) → Turns f swaps blocks s w put i c d r q t → Turns g swaps blocks s w put i c d r q t
@@ -487,7 +489,9 @@ turns_move f g h swaps blocks s w put i c d r q turn.SinkFault (inl x) = inl (re
 turns_move f g h swaps blocks s w put i c d r q turn.SinkFault (inr x) = inr (record { over = x.over; stands = h w x.stands; input = x.input; to_console = x.to_console; to_report = x.to_report })
 
 -- the same, for the answer as it is given
-pub turns_answered : (f g : World → Type 0) → ((w : World) → f w → g w) → (swaps : Bool) (blocks : ℕ) (s : Setting) (w : World) (put : Bool) (i c d r q : Option (List ℕ)) (t u : Turn) → u ≡ t → Turns f swaps blocks s w put i c d r q t → Turns g swaps blocks s w put i c d r q u
+pub turns_answered : (f g : World → Type 0) → ((w : World) → f w → g w)
+    → (swaps : Bool) (blocks : ℕ) (s : Setting) (w : World) (put : Bool) (i c d r q : Option (List ℕ)) (t u : Turn) → u ≡ t
+    → Turns f swaps blocks s w put i c d r q t → Turns g swaps blocks s w put i c d r q u
 turns_answered f g h swaps blocks s w put i c d r q t u same x = subst (λ (z : Turn). Turns g swaps blocks s w put i c d r q z) (sym same) (turns_move f g h swaps blocks s w put i c d r q t x)
 
 pub caused_answered : (sink input device : Type 0) (t u : Turn) → u ≡ t → Caused sink input device t → Caused sink input device u

@@ -1,5 +1,6 @@
 -- A store gets one segment more, under the next name.
-use Rattle.std.proofs.Common.{◌≡◌, ◌≢◌, ◌⊎◌, inl, inr, ℕ, zero, suc, ◌+◌, ◌<◌, ◌≤◌, ◌++◌, ◌==◌, ◌-◌, ◌^◌, Bool, true, false, List, [], ◌∷◌, length, replicate, Option, Some, None, IsSome, if◌then◌else◌, get_or, ap, sym, ◌∙◌, refl, arith, subst, length-append, nat_lt}
+use Rattle.std.proofs.Common.{◌≡◌, ◌≢◌, ◌⊎◌, inl, inr, ℕ, zero, suc, ◌+◌, ◌<◌, ◌≤◌, ◌++◌, ◌==◌, ◌-◌, ◌^◌, Bool, true, false, List, [], ◌∷◌, length, replicate, Option}
+use Rattle.std.proofs.Common.{Some, None, IsSome, if◌then◌else◌, get_or, ap, sym, ◌∙◌, refl, arith, subst, length-append, nat_lt}
 use Rattle.std.specs.Prelude.{slice_get, slice_set, option_map, is_some}
 use Rattle.std.proofs.Math.ListN.{length-set}
 use Rattle.std.proofs.lemmas.List.{get_or_append_left, length-replicate}

@@ -1,5 +1,6 @@
 -- The ring of ids, and what the clock's calls leave.
-use Rattle.std.proofs.Common.{◌≡◌, ◌≢◌, ℕ, ◌+◌, ◌<◌, ◌≤◌, ◌⊎◌, inl, inr, List, length, ltb, sym, ap, ◌∙◌, arith, true, false, get_or, subst, Option, Some, None, Bool, refl, set, length-set, get_or-set_same, get_or-set_other, if◌then◌else◌, ◌==◌}
+use Rattle.std.proofs.Common.{◌≡◌, ◌≢◌, ℕ, ◌+◌, ◌<◌, ◌≤◌, ◌⊎◌, inl, inr, List, length, ltb, sym, ap, ◌∙◌, arith, true, false, get_or, subst, Option, Some, None, Bool}
+use Rattle.std.proofs.Common.{refl, set, length-set, get_or-set_same, get_or-set_other, if◌then◌else◌, ◌==◌}
 use Rattle.std.proofs.lemmas.Bool.{cases_lt, cases_eq}
 use Rattle.std.proofs.lemmas.Bool.Decides.{nat_tests}
 use Rattle.std.proofs.lemmas.List.{get_or_past}
@@ -96,7 +97,8 @@ chosen_passed old new ring keep hand count p l o a k = record {
 pub kept_late : (ring keep : List ℕ) (hand count p : ℕ) → hand ≤ p → ((j : ℕ) → hand ≤ j → j < p → IsKept keep (get_or ring j 0)) → (j : ℕ) → j < count → ComesBefore hand j p → IsKept keep (get_or ring j 0)
 kept_late ring keep hand count p l k j w b = elim b [ inl s ↦ k j s.0 s.1 | inr s ↦ absurd (omega (arith, s.0)) ]
 
-pub kept_early : (ring keep : List ℕ) (hand count p : ℕ) → p < hand → ((j : ℕ) → hand ≤ j → j < count → IsKept keep (get_or ring j 0)) → ((j : ℕ) → 0 ≤ j → j < p → IsKept keep (get_or ring j 0)) → (j : ℕ) → j < count → ComesBefore hand j p → IsKept keep (get_or ring j 0)
+pub kept_early : (ring keep : List ℕ) (hand count p : ℕ) → p < hand → ((j : ℕ) → hand ≤ j → j < count → IsKept keep (get_or ring j 0))
+    → ((j : ℕ) → 0 ≤ j → j < p → IsKept keep (get_or ring j 0)) → (j : ℕ) → j < count → ComesBefore hand j p → IsKept keep (get_or ring j 0)
 kept_early ring keep hand count p l a k j w b = elim b [
   | inl s ↦ absurd (omega (arith, s.0, s.1))
   | inr s ↦ elim s.1 [ inl far ↦ a j far w | inr near ↦ k j (omega arith) near ]

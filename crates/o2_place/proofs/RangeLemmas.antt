@@ -30,7 +30,9 @@ AreApart-insert (s ∷ rs) (suc i) r h a =
     let f : find_in (insert rs i r) s.id ≡ None = grind (arith, nat_tests) in
     (f, AreApart-insert rs i r n.1 a.1)
 
-pub AreLaid-insert : (rs : List Range) (i : ℕ) (r : Range) (low size : ℕ) → AreLaid low size rs → IsFree size rs r.at r.len → 0 < r.len → low ≤ r.at → i ≤ length rs → ((k : ℕ) (d : Range) → k < i → (get_or rs k d).at < r.at) → ((d : Range) → i < length rs → r.at ≤ (get_or rs i d).at) → AreLaid low size (insert rs i r)
+pub AreLaid-insert : (rs : List Range) (i : ℕ) (r : Range) (low size : ℕ) → AreLaid low size rs → IsFree size rs r.at r.len → 0 < r.len
+    → low ≤ r.at → i ≤ length rs → ((k : ℕ) (d : Range) → k < i → (get_or rs k d).at < r.at)
+    → ((d : Range) → i < length rs → r.at ≤ (get_or rs i d).at) → AreLaid low size (insert rs i r)
 AreLaid-insert [] zero r low size a f p l w b n = (l, p, f)
 AreLaid-insert [] (suc i) r low size a f p l w b n = absurd (omega arith)
 AreLaid-insert (s ∷ rs) zero r low size a f p l w b n =

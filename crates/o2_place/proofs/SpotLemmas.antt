@@ -91,7 +91,9 @@ IsPlaces-put rs next ss size taken i id at len h e l n p f m b a =
     (put_changed rs i id at len p n)
     (let u = used-insert rs i r m in omega (arith, u, h.counted)))
 
-pub Changes-put : (rs next : List Range) (ss : List Spot) (size i id at len : ℕ) → next ≡ insert rs i (record { id = id; at = at; len = len }) → find_in rs id ≡ None → 0 < len → Changes (layout_of rs ss size) (layout_of next (set ss id (record { at = at; len = len })) size) id (Some (at, len))
+pub Changes-put : (rs next : List Range) (ss : List Spot) (size i id at len : ℕ) → next
+    ≡ insert rs i (record { id = id; at = at; len = len }) → find_in rs id ≡ None → 0 < len
+    → Changes (layout_of rs ss size) (layout_of next (set ss id (record { at = at; len = len })) size) id (Some (at, len))
 Changes-put rs next ss size i id at len e n p =
     let P : List Range → Type 0 = λ xs. Changes (layout_of rs ss size) (layout_of xs (set ss id (record { at = at; len = len })) size) id (Some (at, len)) in
     subst P (sym e) (Changes-changed rs (insert rs i (record { id = id; at = at; len = len })) ss size id (record { at = at; len = len }) (Some (at, len)) (spot_some at len p) (put_changed rs i id at len p n))
@@ -103,7 +105,9 @@ take_changed rs i id d l a e k = subst (λ (x : ℕ). find_in (remove rs i) k �
 pub used-remove : (rs : List Range) (i : ℕ) (d : Range) → i < length rs → used (remove rs i) + (get_or rs i d).len ≡ used rs
 used-remove rs i d l = grind (arith, common_steps)
 
-pub IsPlaces-take : (rs next : List Range) (ss : List Spot) (size taken i id len : ℕ) (d : Range) → IsPlaces rs ss size taken → next ≡ remove rs i → id < length ss → i < length rs → (get_or rs i d).id ≡ id → (get_or rs i d).len ≡ len → IsPlaces next (set ss id no_spot) size (taken - len)
+pub IsPlaces-take : (rs next : List Range) (ss : List Spot) (size taken i id len : ℕ) (d : Range) → IsPlaces rs ss size taken → next
+    ≡ remove rs i → id < length ss → i < length rs → (get_or rs i d).id ≡ id → (get_or rs i d).len ≡ len
+    → IsPlaces next (set ss id no_spot) size (taken - len)
 IsPlaces-take rs next ss size taken i id len d h e l m q w =
     let P : List Range → Type 0 = λ xs. IsPlaces xs (set ss id no_spot) size (taken - len) in
     subst P (sym e) (IsPlaces-changed rs (remove rs i) ss size taken (taken - len) id no_spot h l

@@ -1,5 +1,6 @@
 -- How a run goes on, and how it ends.
-use Rattle.std.proofs.Common.{◌≡◌, ℕ, suc, ◌+◌, ◌<◌, ◌≤◌, Bool, true, false, not, List, [], ◌++◌, Option, None, ◌⊎◌, inl, inr, Ok, Err, ap, sym, ◌∙◌, refl, arith, ◌||◌, ◌==◌, if◌then◌else◌, below_more, append-nil, append_assoc, length, subst}
+use Rattle.std.proofs.Common.{◌≡◌, ℕ, suc, ◌+◌, ◌<◌, ◌≤◌, Bool, true, false, not, List, [], ◌++◌, Option, None, ◌⊎◌, inl, inr, Ok, Err, ap, sym, ◌∙◌, refl, arith, ◌||◌}
+use Rattle.std.proofs.Common.{◌==◌, if◌then◌else◌, below_more, append-nil, append_assoc, length, subst}
 use Rattle.o2_outer.specs.Texts.{Rose, Gains, Continues}
 use Rattle.o2_world.specs.World.{World, Setting}
 use Rattle.o2_world.specs.Text.{lines_text}
@@ -112,12 +113,17 @@ module _ (before_it now : World → Type 0) (swaps : Bool) (blocks : ℕ) (s : S
   stopped_anyhow h (inr end) puts since =
       (record { texts = last_texts h end; room = h.room; input = inl end.input; hands = hands_last u v x y z o ahead (length (after s w h.steps).lines) (pieces s w h.steps) _ h.hands (puts.at_end end.over) }, inl end.stands)
 
-  pub closed_by : (t : Turn) → (t ≡ AllEnded) ⊎ (t ≡ BudgetSpent) → (count : ℕ) (h : HasReached before_it swaps s w i c d r q (counts u v y z ahead)) (put : Bool) (since : Type 0) → Turns now swaps count s (after s w h.steps) put l d e q p t → TurnHands s (after s w h.steps) (counts v x z o (length (after s w h.steps).lines)) t
+  pub closed_by : (t : Turn) → (t ≡ AllEnded) ⊎ (t ≡ BudgetSpent)
+      → (count : ℕ) (h : HasReached before_it swaps s w i c d r q (counts u v y z ahead)) (put : Bool) (since : Type 0)
+      → Turns now swaps count s (after s w h.steps) put l d e q p t
+      → TurnHands s (after s w h.steps) (counts v x z o (length (after s w h.steps).lines)) t
       → HasTexts now swaps blocks s w l c e r p since (counts u x y o ahead) (Ok tt)
   closed_by t (inl is) count h put since turns puts = closed h false (subst (λ (a : Turn). Turns now swaps count s (after s w h.steps) put l d e q p a) is turns) (subst (λ (a : Turn). TurnHands s (after s w h.steps) (counts v x z o (length (after s w h.steps).lines)) a) is puts) since
   closed_by t (inr is) count h put since turns puts = closed h true (subst (λ (a : Turn). Turns now swaps count s (after s w h.steps) put l d e q p a) is turns) (subst (λ (a : Turn). TurnHands s (after s w h.steps) (counts v x z o (length (after s w h.steps).lines)) a) is puts) since
 
-  pub ran_by : (t : Turn) → t ≡ Ran → (count : ℕ) (h : HasReached before_it swaps s w i c d r q (counts u v y z ahead)) (put : Bool) → Turns now swaps count s (after s w h.steps) put l d e q p t → TurnHands s (after s w h.steps) (counts v x z o (length (after s w h.steps).lines)) t
+  pub ran_by : (t : Turn) → t ≡ Ran → (count : ℕ) (h : HasReached before_it swaps s w i c d r q (counts u v y z ahead)) (put : Bool)
+      → Turns now swaps count s (after s w h.steps) put l d e q p t
+      → TurnHands s (after s w h.steps) (counts v x z o (length (after s w h.steps).lines)) t
       → HasReached now swaps s w l c e r p (counts u x y o ahead)
   ran_by t is count h put turns puts = one_more h (subst (λ (a : Turn). Turns now swaps count s (after s w h.steps) put l d e q p a) is turns) (subst (λ (a : Turn). TurnHands s (after s w h.steps) (counts v x z o (length (after s w h.steps).lines)) a) is puts)
 

@@ -1,5 +1,6 @@
 -- What the row of a new segment comes to.
-use Rattle.std.proofs.Common.{◌≡◌, ◌≢◌, ◌⊎◌, ◌&&◌, inl, inr, ℕ, ◌+◌, ◌%◌, ◌<◌, ◌≤◌, ◌||◌, ◌==◌, arith, List, [], ◌∷◌, length, replicate, Option, Some, None, is_some, IsSome, Bool, true, false, cond, eqb, nat_le, nat_lt, refl, sym, ap, ◌∙◌, subst}
+use Rattle.std.proofs.Common.{◌≡◌, ◌≢◌, ◌⊎◌, ◌&&◌, inl, inr, ℕ, ◌+◌, ◌%◌, ◌<◌, ◌≤◌, ◌||◌, ◌==◌, arith, List, [], ◌∷◌, length, replicate, Option, Some, None, is_some}
+use Rattle.std.proofs.Common.{IsSome, Bool, true, false, cond, eqb, nat_le, nat_lt, refl, sym, ap, ◌∙◌, subst}
 use Rattle.std.proofs.lemmas.Bool.{and_parts, cond-true, cond-false, eq-eqb, eqb-true}
 use Rattle.std.proofs.lemmas.Bool.Decides.{nat_tests}
 use Rattle.o2_base.specs.Selectors.{selector_of}

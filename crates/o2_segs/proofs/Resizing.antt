@@ -53,7 +53,9 @@ realloc_done p o sh m pid size s h es em named e t k =
 
 -- A new size as the change of the row, and a stop, which changes nothing.
 
-pub sized_matches : (p : Parts) (w : World) (t : Shelf) (n : Maps) (block : ℕ → List ℕ) (id : SegId) (size m : ℕ) (r : Ruling) → r ≡ grants 0 (Resizes id.age size ∷ []) → m ≡ size → Matches (moved p t n block) (with_change w (Resizes id.age m)) → Matches (moved p t n block) (with_all w r.changes)
+pub sized_matches : (p : Parts) (w : World) (t : Shelf) (n : Maps) (block : ℕ → List ℕ) (id : SegId) (size m : ℕ) (r : Ruling) → r
+    ≡ grants 0 (Resizes id.age size ∷ []) → m ≡ size → Matches (moved p t n block) (with_change w (Resizes id.age m))
+    → Matches (moved p t n block) (with_all w r.changes)
 unfolding with_changes
 sized_matches p w t n block id size m r e same q =
     subst (λ (x : Ruling). Matches (moved p t n block) (with_all w x.changes)) (sym e) (subst (λ (x : ℕ). Matches (moved p t n block) (with_change w (Resizes id.age x))) same q)

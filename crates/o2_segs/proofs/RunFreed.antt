@@ -1,5 +1,6 @@
 -- What a machine stands for behind the free of a run.
-use Rattle.std.proofs.Common.{◌≡◌, ◌≢◌, ◌⊎◌, inl, inr, ℕ, zero, suc, ◌+◌, ◌-◌, ◌<◌, ◌≤◌, ◌==◌, ◌&&◌, ◌||◌, nat_le, nat_lt, not, Bool, true, false, cond, List, [], ◌∷◌, map, filter, min, Option, Some, None, IsSome, is_some, option_map, if◌then◌else◌, refl, sym, ap, ◌∙◌, subst, arith}
+use Rattle.std.proofs.Common.{◌≡◌, ◌≢◌, ◌⊎◌, inl, inr, ℕ, zero, suc, ◌+◌, ◌-◌, ◌<◌, ◌≤◌, ◌==◌, ◌&&◌, ◌||◌, nat_le, nat_lt, not, Bool, true, false, cond, List, [], ◌∷◌}
+use Rattle.std.proofs.Common.{map, filter, min, Option, Some, None, IsSome, is_some, option_map, if◌then◌else◌, refl, sym, ap, ◌∙◌, subst, arith}
 use Rattle.std.specs.List.{list_any}
 use Rattle.std.proofs.lemmas.Bool.{cases_lt, eq-eqb, false≢true, ne_eqb}
 use Rattle.o2_regions.specs.declared.held.Held.{Held as HeldThere}
@@ -182,7 +183,11 @@ module _ (p : Parts) (w : World) (t : Shelf) (a n : Maps) (pid i : ℕ) (h : Hel
               j_hit : ((b == pid) && is_below h (end_in h) j) ≡ true
               j_hit =
                   let c = and_parts (b == pid) (is_below h (end_in h) h.first) hit in
-                  let one_run = tidy.runs.stretches.apart pid i hold member b j (held_of p.maps b j x.old) m0 h.first first_inside (omega (arith, same), (let d = (tidy.runs.stretches.inside b j (held_of p.maps b j x.old) m0) in let u = d.0 in let t = d.1 in omega (arith, same, u, t))) (inl (number_is b pid c.0)) in
+                  let d = tidy.runs.stretches.inside b j (held_of p.maps b j x.old) m0 in
+                  let u = d.0 in
+                  let t = d.1 in
+                  let one_run = tidy.runs.stretches.apart pid i hold member b j (held_of p.maps b j x.old) m0 h.first first_inside
+                  (omega (arith, same), omega (arith, same, u, t)) (inl (number_is b pid c.0)) in
                   let d = tidy.runs.stretches.inside b j (held_of p.maps b j x.old) m0 in
                   let small = (holder_in p.maps b j x.old kp x.there).1 in
                   let u = d.0 in

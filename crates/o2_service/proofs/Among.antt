@@ -1,5 +1,6 @@
 -- What is needed, as the store is asked for it.
-use Rattle.std.proofs.Common.{◌≡◌, ◌≢◌, ℕ, zero, suc, ◌+◌, ◌<◌, ◌≤◌, inl, inr, List, [], ◌∷◌, length, map, Option, Some, None, is_some, IsSome, Bool, true, false, ltb, eqb, ◌||◌, ◌&&◌, if◌then◌else◌, max, refl, sym, ap, ◌∙◌, subst, arith, option_map, unwrap_or}
+use Rattle.std.proofs.Common.{◌≡◌, ◌≢◌, ℕ, zero, suc, ◌+◌, ◌<◌, ◌≤◌, inl, inr, List, [], ◌∷◌, length, map, Option, Some, None, is_some, IsSome, Bool, true, false, ltb}
+use Rattle.std.proofs.Common.{eqb, ◌||◌, ◌&&◌, if◌then◌else◌, max, refl, sym, ap, ◌∙◌, subst, arith, option_map, unwrap_or}
 use Rattle.std.specs.List.{slice_get}
 use Rattle.std.proofs.lemmas.Bool.{cases_eq, cases_lt}
 use Rattle.std.proofs.lemmas.Bool.Decides.{nat_tests}

@@ -169,7 +169,9 @@ pub tied_one : (p : Parts) (w : World) → IsTied w → Matches p w → ShareOne
 unfolding held_here
 tied_one p w tied q = record {
   one = λ a b i h k high x y called. go a b i h k x y called
-      (tied.one (a - 1) (b - 1) i (held_of p.maps a i h) (held_of p.maps b i k) high (held_from w.processes a i (held_of p.maps a i h) (q.held a i ∙ ap (option_map (held_of p.maps a i)) x)) (held_from w.processes b i (held_of p.maps b i k) (q.held b i ∙ ap (option_map (held_of p.maps b i)) y)));
+      (tied.one (a - 1) (b - 1) i (held_of p.maps a i h) (held_of p.maps b i k) high
+      (held_from w.processes a i (held_of p.maps a i h) (q.held a i ∙ ap (option_map (held_of p.maps a i)) x))
+      (held_from w.processes b i (held_of p.maps b i k) (q.held b i ∙ ap (option_map (held_of p.maps b i)) y)));
 }
   where
     go : (a b i : ℕ) (h k : HeldThere) → held_there p.maps a i ≡ Some h → held_there p.maps b i ≡ Some k → (h.cause ≡ Loaded → ⊥) → AreOne w.names (held_of p.maps a i h) (held_of p.maps b i k) → k.id ≡ h.id

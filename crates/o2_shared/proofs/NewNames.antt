@@ -1,5 +1,6 @@
 -- What the row of a new name comes to, and what a new name leaves of the names.
-use Rattle.std.proofs.Common.{◌≡◌, ◌≢◌, ℕ, ◌+◌, ◌<◌, ◌≤◌, ◌&&◌, ◌==◌, ◌⊎◌, inl, inr, Bool, true, false, cond, eqb, nat_le, nat_lt, List, [], ◌∷◌, length, get_or, set, Option, Some, None, IsSome, is_some, ap, sym, ◌∙◌, refl, subst, arith}
+use Rattle.std.proofs.Common.{◌≡◌, ◌≢◌, ℕ, ◌+◌, ◌<◌, ◌≤◌, ◌&&◌, ◌==◌, ◌⊎◌, inl, inr, Bool, true, false, cond, eqb, nat_le, nat_lt, List, [], ◌∷◌, length, get_or, set}
+use Rattle.std.proofs.Common.{Option, Some, None, IsSome, is_some, ap, sym, ◌∙◌, refl, subst, arith}
 use Rattle.std.proofs.lemmas.Bool.{and_from, and_parts, cases_eq, cond-false, cond-true, eq-eqb, eqb-true, false_from_ne_true, ne_eqb, or_parts}
 use Rattle.std.proofs.lemmas.Bool.Decides.{nat_tests}
 use Rattle.std.proofs.lemmas.List.{get_or-set_other, get_or-set_same}
@@ -125,7 +126,9 @@ pub text_new : (s : Shelf) (names : List (Option Name)) (look : List ℕ → Opt
 text_new s names look text texts e = texts.each text ∙ ap age_of e
 
 -- with the changes of a new name
-pub named_texts : (t : Shelf) (names : List (Option Name)) (w : World) (pid size i made value : ℕ) (name : List ℕ) (r : Ruling) → r ≡ grants value (named_changes pid size i made name) → AreTexts t names (text_name ((name, made) ∷ w.texts)) → AreTexts t names (text_name (with_all w r.changes).texts)
+pub named_texts : (t : Shelf) (names : List (Option Name)) (w : World) (pid size i made value : ℕ) (name : List ℕ) (r : Ruling) → r
+    ≡ grants value (named_changes pid size i made name) → AreTexts t names (text_name ((name, made) ∷ w.texts))
+    → AreTexts t names (text_name (with_all w r.changes).texts)
 unfolding with_changes
 named_texts t names w pid size i made value name r is behind = subst (λ (x : Ruling). AreTexts t names (text_name (with_all w x.changes).texts)) (sym is) behind
 

@@ -1,5 +1,6 @@
 -- The order of the places that have a name: what it says of a text, and that it stays one as names come and go.
-use Rattle.std.proofs.Common.{◌≡◌, ◌≢◌, ℕ, zero, suc, ◌+◌, ◌-◌, ◌<◌, ◌≤◌, ◌==◌, ◌||◌, ◌⊎◌, inl, inr, Bool, true, false, List, [], ◌∷◌, Option, Some, None, Result, Ok, Err, IsSome, length, get_or, set, replicate, eqb, refl, sym, ap, ◌∙◌, subst, arith}
+use Rattle.std.proofs.Common.{◌≡◌, ◌≢◌, ℕ, zero, suc, ◌+◌, ◌-◌, ◌<◌, ◌≤◌, ◌==◌, ◌||◌, ◌⊎◌, inl, inr, Bool, true, false, List, [], ◌∷◌, Option, Some, None, Result, Ok}
+use Rattle.std.proofs.Common.{Err, IsSome, length, get_or, set, replicate, eqb, refl, sym, ap, ◌∙◌, subst, arith}
 use Rattle.std.specs.List.{insert, list_any, remove}
 use Rattle.std.specs.List.Sorted.{IsBinarySearchResult, IsNonDecreasingBy, IsSearchInRange}
 use Rattle.std.specs.Ordering.{nat_cmp, ordering_index, ordering_reverse}
@@ -155,7 +156,8 @@ module _ (names : List (Option Name)) (order : List ℕ) (o : IsOrdered names or
   pub distinct : AreDistinct names
   distinct = record { once = λ place other k l a b text. go place other k l a b text (at_rank place k a) (at_rank other l b) }
     where
-      go : (place other : ℕ) (k l : Name) → name_at names place ≡ Some k → name_at names other ≡ Some l → k.text ≡ l.text → (i : ℕ) × (i < length order) × (place_at order i ≡ place) → (j : ℕ) × (j < length order) × (place_at order j ≡ other) → place ≡ other
+      go : (place other : ℕ) (k l : Name) → name_at names place ≡ Some k → name_at names other ≡ Some l → k.text ≡ l.text → (i : ℕ)
+          × (i < length order) × (place_at order i ≡ place) → (j : ℕ) × (j < length order) × (place_at order j ≡ other) → place ≡ other
       go place other k l a b text i j = by_rank (cases_lt i.0 j.0) (cases_lt j.0 i.0)
         where
           here : name_at names (place_at order i.0) ≡ Some k
@@ -174,7 +176,9 @@ module _ (names : List (Option Name)) (order : List ℕ) (o : IsOrdered names or
   rises : (text : List ℕ) → IsNonDecreasingBy (λ (y : ℕ). ordering_index (against (name_at names y) text)) order
   rises text = IsNonDecreasingBy-from_default (λ (y : ℕ). ordering_index (against (name_at names y) text)) order 0 (λ i j le within. go i j within (cases_lt i j) le)
     where
-      by_names : (i j : ℕ) (k l : Name) → i < j → j < length order → name_at names (place_at order i) ≡ Some k → name_at names (place_at order j) ≡ Some l → ordering_index (against (name_at names (place_at order i)) text) ≤ ordering_index (against (name_at names (place_at order j)) text)
+      by_names : (i j : ℕ) (k l : Name) → i < j → j < length order → name_at names (place_at order i) ≡ Some k
+          → name_at names (place_at order j) ≡ Some l → ordering_index (against (name_at names (place_at order i)) text) ≤ ordering_index
+          (against (name_at names (place_at order j)) text)
       by_names i j k l less within a b =
           subst (λ (x : Option Name). ordering_index (against x text) ≤ ordering_index (against (name_at names (place_at order j)) text)) (sym a)
           (subst (λ (x : Option Name). ordering_index (slice_cmp nat_cmp k.text text) ≤ ordering_index (against x text)) (sym b) (index_rises k.text l.text text (o.rising i j k l less within a b)))
@@ -281,7 +285,9 @@ module _ (names : List (Option Name)) (order : List ℕ) (o : IsOrdered names or
       was : (i j : ℕ) (k : Name) → place_at (remove order at) i ≡ place_at order j → name_at (set names (place_at order at) None) (place_at (remove order at) i) ≡ Some k → name_at names (place_at order j) ≡ Some k
       was i j k e a = (still_there names (place_at order at) (place_at order j) k (ap (name_at (set names (place_at order at) None)) (sym e) ∙ a)).1
 
-      rising_by : (i j : ℕ) (k l : Name) → i < j → Left order at i → Left order at j → name_at (set names (place_at order at) None) (place_at (remove order at) i) ≡ Some k → name_at (set names (place_at order at) None) (place_at (remove order at) j) ≡ Some l → slice_cmp nat_cmp k.text l.text ≡ Less
+      rising_by : (i j : ℕ) (k l : Name) → i < j → Left order at i → Left order at j
+          → name_at (set names (place_at order at) None) (place_at (remove order at) i) ≡ Some k
+          → name_at (set names (place_at order at) None) (place_at (remove order at) j) ≡ Some l → slice_cmp nat_cmp k.text l.text ≡ Less
       rising_by i j k l less (Same m x e) (Same n y f) a b = o.rising i j k l less y (was i i k e a) (was j j l f b)
       rising_by i j k l less (Same m x e) (Next n y f) a b = o.rising i (j + 1) k l (omega arith) y (was i i k e a) (was j (j + 1) l f b)
       rising_by i j k l less (Next m x e) (Same n y f) a b = absurd (omega arith)
@@ -335,7 +341,9 @@ module _ (names : List (Option Name)) (order : List ℕ) (o : IsOrdered names or
     above_new : (j : ℕ) (k l : Name) → at ≤ j → j < length order → name_at names (place_at order j) ≡ Some l → new ≡ k → slice_cmp nat_cmp k.text l.text ≡ Less
     above_new j k l m n a is = ap (λ (x : Name). slice_cmp nat_cmp x.text l.text) (sym is) ∙ back l.text new.text (sym (ap (λ (x : Option Name). against x new.text) a) ∙ gap.above j m n)
 
-    rising_by : (i j : ℕ) (k l : Name) → i < j → Stands order at place i → Stands order at place j → name_at (set names place (Some new)) (place_at (insert order at place) i) ≡ Some k → name_at (set names place (Some new)) (place_at (insert order at place) j) ≡ Some l → slice_cmp nat_cmp k.text l.text ≡ Less
+    rising_by : (i j : ℕ) (k l : Name) → i < j → Stands order at place i → Stands order at place j
+        → name_at (set names place (Some new)) (place_at (insert order at place) i) ≡ Some k
+        → name_at (set names place (Some new)) (place_at (insert order at place) j) ≡ Some l → slice_cmp nat_cmp k.text l.text ≡ Less
     rising_by i j k l less (Front m x e) (Front n y f) a b = o.rising i j k l less y (was i i k e x a) (was j j l f y b)
     rising_by i j k l less (Front m x e) (Here is f) a b = below_new i k l m (was i i k e x a) (is_new j l f b)
     rising_by i j k l less (Front m x e) (Behind h is n y f) a b = o.rising i h k l (omega arith) y (was i i k e x a) (was j h l f y b)

@@ -158,7 +158,8 @@ give_is p o s m pid sel to i h index es em named e =
 give_refused : (r done dead : Ruling) (may lives : Bool) → r ≡ (if not may then refusal 5 else (if lives then done else dead)) → may ≡ false → r ≡ refusal 5
 give_refused r done dead may lives is e = is ∙ ap (λ (b : Bool). cond (not b) (refusal 5) (cond lives done dead)) e
 
-pub give_kept : (p : Parts) (o : Others) (s : Shelf) (m : Maps) (pid sel to i : ℕ) (h : HeldThere) → i ≡ sel / 8 → p.shelf ≡ s → p.maps ≡ m → AreNamed s m → under m pid sel ≡ Some h → may_share_all s m 0 pid i h ≡ false → giving (known_in p o) pid sel to ≡ refusal 5
+pub give_kept : (p : Parts) (o : Others) (s : Shelf) (m : Maps) (pid sel to i : ℕ) (h : HeldThere) → i ≡ sel / 8 → p.shelf ≡ s → p.maps ≡ m
+    → AreNamed s m → under m pid sel ≡ Some h → may_share_all s m 0 pid i h ≡ false → giving (known_in p o) pid sel to ≡ refusal 5
 give_kept p o s m pid sel to i h index es em named e may =
     give_refused (giving (known_in p o) pid sel to) (shares_to (known_in p o) (selector_of i) pid to (members_in m pid i h)) (refusal 303) (may_share_all s m 0 pid i h) (goes_on (p.running to)) (give_is p o s m pid sel to i h index es em named e) may
 

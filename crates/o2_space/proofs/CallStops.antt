@@ -1,5 +1,6 @@
 -- What lacks where a call on segments stops lacks in the world.
-use Rattle.std.proofs.Common.{◌≡◌, ◌≢◌, inl, inr, ℕ, ◌+◌, ◌/◌, ◌<◌, ◌≤◌, ◌==◌, ◌&&◌, ◌||◌, Bool, true, false, cond, eqb, List, [], ◌∷◌, length, min, Option, Some, None, is_some, IsSome, IfSome, option_map, ap, sym, ◌∙◌, refl, subst, arith, if◌then◌else◌}
+use Rattle.std.proofs.Common.{◌≡◌, ◌≢◌, inl, inr, ℕ, ◌+◌, ◌/◌, ◌<◌, ◌≤◌, ◌==◌, ◌&&◌, ◌||◌, Bool, true, false, cond, eqb, List, [], ◌∷◌, length, min, Option, Some, None}
+use Rattle.std.proofs.Common.{is_some, IsSome, IfSome, option_map, ap, sym, ◌∙◌, refl, subst, arith, if◌then◌else◌}
 use Rattle.std.specs.Prelude.{max, nat_le, nat_lt}
 use Rattle.std.specs.List.{list_any}
 use Rattle.std.proofs.lemmas.Bool.{cases_eq, cond-false, eqb-true, false≢true}
@@ -22,7 +23,8 @@ use Rattle.o2_world.specs.Calls.{Before}
 use Rattle.o2_world.specs.Changes.{Change, Drops, Finishes, Frees, Holds, Locks, Makes, Marks as MarksChange, Names, Reserves, Resizes, swept, takes, with_all, with_change, with_changes}
 use Rattle.o2_world.specs.Known.{Known, Marks, held_at, known_of}
 use Rattle.o2_world.specs.Map.{Map, at_key, get}
-use Rattle.o2_world.specs.Rulings.{allocation, allocation_at, free_index, full_size, grants, held_by_call, held_under, is_alias, is_discardable, is_in_run, keeps_its_size, locking, locking_of, locking_with, made_segment, reallocation, reallocation_of, reallocation_with, refusal, region_by}
+use Rattle.o2_world.specs.Rulings.{allocation, allocation_at, free_index, full_size, grants, held_by_call, held_under, is_alias, is_discardable, is_in_run}
+use Rattle.o2_world.specs.Rulings.{keeps_its_size, locking, locking_of, locking_with, made_segment, reallocation, reallocation_of, reallocation_with, refusal, region_by}
 use Rattle.o2_world.specs.Run.{next_dispatch}
 use Rattle.o2_world.specs.Tied.{IsSound}
 use Rattle.o2_world.specs.World.{Held, Process, Segment, Setting, World, is_live}

@@ -1,5 +1,6 @@
 -- What a call on a huge allocation does to segments that live: all that it sizes get no larger, or none of them gets smaller and none goes.
-use Rattle.std.proofs.Common.{◌≡◌, ◌⊎◌, inl, inr, ℕ, zero, suc, ◌+◌, ◌-◌, ◌/◌, ◌<◌, ◌≤◌, ◌==◌, ◌&&◌, ◌||◌, not, nat_lt, Bool, true, false, cond, max, List, [], ◌∷◌, ◌++◌, length, filter, drop, replicate, Option, Some, None, is_some, option_map, ap, sym, ◌∙◌, refl, subst, arith, if◌then◌else◌}
+use Rattle.std.proofs.Common.{◌≡◌, ◌⊎◌, inl, inr, ℕ, zero, suc, ◌+◌, ◌-◌, ◌/◌, ◌<◌, ◌≤◌, ◌==◌, ◌&&◌, ◌||◌, not, nat_lt, Bool, true, false, cond, max, List, [], ◌∷◌, ◌++◌}
+use Rattle.std.proofs.Common.{length, filter, drop, replicate, Option, Some, None, is_some, option_map, ap, sym, ◌∙◌, refl, subst, arith, if◌then◌else◌}
 use Rattle.std.specs.Prelude.{nat_le}
 use Rattle.std.specs.List.{list_any}
 use Rattle.std.proofs.lemmas.Bool.{and_parts, cases_lt, eqb-true, false≢true}
@@ -8,7 +9,9 @@ use Rattle.o2_isa.specs.declared.cpu.Cpu.{Cpu}
 use Rattle.o2_isa.specs.View.{is_local}
 use Rattle.o2_run.specs.Room.{size_of}
 use Rattle.o2_world.specs.Changes.{Change, Drops, Finishes, Frees, Holds, Locks, Makes, Marks, Names, Reserves, Resizes, takes}
-use Rattle.o2_world.specs.HugeRulings.{all_bytes, all_dropped, all_hold, bytes_of, dropped_members, flags_in, free_run, huge_allocation, huge_at, huge_reallocation, huge_reallocation_of, is_first, is_huge_fault, left_in_run, new_members, other_shares, resized_members, resized_one, run_changes, run_resized, segments_of, sizes_of}
+use Rattle.o2_world.specs.HugeRulings.{all_bytes, all_dropped, all_hold, bytes_of, dropped_members, flags_in, free_run, huge_allocation, huge_at, huge_reallocation}
+use Rattle.o2_world.specs.HugeRulings.{huge_reallocation_of, is_first, is_huge_fault, left_in_run, new_members, other_shares, resized_members, resized_one, run_changes}
+use Rattle.o2_world.specs.HugeRulings.{run_resized, segments_of, sizes_of}
 use Rattle.o2_world.specs.Known.{Known, held_at, known_of, marks_of}
 use Rattle.o2_world.specs.Map.{Map, get}
 use Rattle.o2_world.specs.Rulings.{Ruling, full_size, held_under, in_use, indexes, is_in_run, members, region_by}

@@ -15,7 +15,9 @@ use Rattle.o2_world.specs.Holders.{is_held, process_at}
 use Rattle.o2_world.specs.Known.{Known, Marks as SegmentMarks, same_text, text_name}
 use Rattle.o2_world.specs.Map.{Map, get}
 use Rattle.o2_world.proofs.TiedChanges.{flags_live}
-use Rattle.o2_world.specs.Rulings.{Ruling, aliasing_at, aliasing_of, allocation_at, by_load, free_index, freeing_of, full_size, held_under, in_use, is_alias, is_discardable, is_in_run, is_later, keeps_its_size, locking_of, locking_with, members, reallocation_of, reallocation_with, region_by, sizing_of, sizing_with, unlocking_of, unlocking_with}
+use Rattle.o2_world.specs.Rulings.{Ruling, aliasing_at, aliasing_of, allocation_at, by_load, free_index, freeing_of, full_size, held_under, in_use, is_alias}
+use Rattle.o2_world.specs.Rulings.{is_discardable, is_in_run, is_later, keeps_its_size, locking_of, locking_with, members, reallocation_of, reallocation_with, region_by}
+use Rattle.o2_world.specs.Rulings.{sizing_of, sizing_with, unlocking_of, unlocking_with}
 use Rattle.o2_world.specs.Run.{all_changes, before, changed, next_dispatch, worked}
 use Rattle.o2_world.specs.Tied.{AreLive, IsSound}
 use Rattle.o2_world.specs.World.{Held, Process, Segment, Setting, World, is_live}

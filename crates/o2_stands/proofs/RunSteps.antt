@@ -1,5 +1,6 @@
 -- A step keeps the form of runs.
-use Rattle.std.proofs.Common.{◌≡◌, ◌≢◌, ◌⊎◌, inl, inr, ℕ, zero, suc, ◌+◌, ◌-◌, ◌<◌, ◌≤◌, ◌==◌, ◌&&◌, ◌||◌, nat_le, nat_lt, not, Bool, true, false, cond, List, [], ◌∷◌, map, filter, Option, Some, None, is_some, IsSome, length, if◌then◌else◌, ap, sym, ◌∙◌, refl, arith, subst}
+use Rattle.std.proofs.Common.{◌≡◌, ◌≢◌, ◌⊎◌, inl, inr, ℕ, zero, suc, ◌+◌, ◌-◌, ◌<◌, ◌≤◌, ◌==◌, ◌&&◌, ◌||◌, nat_le, nat_lt, not, Bool, true, false, cond, List, [], ◌∷◌}
+use Rattle.std.proofs.Common.{map, filter, Option, Some, None, is_some, IsSome, length, if◌then◌else◌, ap, sym, ◌∙◌, refl, arith, subst}
 use Rattle.std.specs.List.{list_any}
 use Rattle.std.proofs.lemmas.Bool.{cases_lt, eq-eqb, false≢true, ne_eqb}
 use Rattle.o2_desc.specs.Bits.{has_bit}
@@ -22,7 +23,9 @@ use Rattle.o2_stands.specs.Runs.{HasFullMembers, HasRunFlags, HasRuns, IsInStret
 use Rattle.o2_stands.specs.Stands.{IsTidy, is_stretch, region_at}
 use Rattle.o2_stands.proofs.Puts.{held_put, put_at, there_put, with_map}
 use Rattle.o2_stands.proofs.Reserved.{and_parts, or_right}
-use Rattle.o2_stands.proofs.RunsKept.{AboutOne, AboutRun, AreCounted, IsAbout, IsBefore, IsFrom, IsOutside, IsWas, before_freed, before_given, before_with_one, flags_written, from_of, full_of, full_same, full_written, in_run_as, low_end, member_was, more_by, runs_freed, runs_given, runs_same, runs_with_one, was}
+use Rattle.o2_stands.proofs.RunsKept.{AboutOne, AboutRun, AreCounted, IsAbout, IsBefore, IsFrom, IsOutside, IsWas, before_freed, before_given, before_with_one}
+use Rattle.o2_stands.proofs.RunsKept.{flags_written, from_of, full_of, full_same, full_written, in_run_as, low_end, member_was, more_by, runs_freed, runs_given}
+use Rattle.o2_stands.proofs.RunsKept.{runs_same, runs_with_one, was}
 use Rattle.o2_stands.proofs.Worlds.{to_place}
 
 -- A list of changes of what one process holds, each at another index.
@@ -119,7 +122,10 @@ listed_is : (k : Known) (from : ℕ) (is : List ℕ) (shared : Each (IsShared k 
 listed_is k from [] shared j o = refl
 listed_is k from (i ∷ is) shared j o = go (i == j) refl (listed_is k from is shared.1 j o)
   where
-    go : (b : Bool) → (i == j) ≡ b → with_listed (held_each k from is shared.1) j o ≡ (if is_among is j then more_by (k.held from j) o else o) → (if i == j then more (share shared.0.held) o else with_listed (held_each k from is shared.1) j o) ≡ (if (i == j) || is_among is j then more_by (k.held from j) o else o)
+    go : (b : Bool) → (i == j) ≡ b → with_listed (held_each k from is shared.1) j o
+        ≡ (if is_among is j then more_by (k.held from j) o else o)
+        → (if i == j then more (share shared.0.held) o else with_listed (held_each k from is shared.1) j o)
+        ≡ (if (i == j) || is_among is j then more_by (k.held from j) o else o)
     go true e rest = rw e (sym (ap (λ (x : Option Held). more_by x o) (ap (k.held from) (sym (equal_number i j e)) ∙ shared.0.there)))
     go false e rest = rw e rest
 

@@ -174,7 +174,9 @@ module _ (region first count : ℕ) (some : 0 < count) where
           by true f h = inr (all_behind_it r rs first apart.0 f (omega arith) (omega (arith, some)))
           by false f h = inl h
 
-      go : ((list_any is_it rs ≡ true) ⊎ (list_any (reserves region first) rs ≡ false) → list_any (reserves g j) (filter keeps rs) ≡ list_any (reserves g j) rs) → (b : Bool) → keeps r ≡ b → list_any (reserves g j) (filter keeps (r ∷ rs)) ≡ (reserves g j r || list_any (reserves g j) rs)
+      go : ((list_any is_it rs ≡ true) ⊎ (list_any (reserves region first) rs ≡ false) → list_any (reserves g j) (filter keeps rs)
+          ≡ list_any (reserves g j) rs) → (b : Bool) → keeps r ≡ b → list_any (reserves g j) (filter keeps (r ∷ rs))
+          ≡ (reserves g j r || list_any (reserves g j) rs)
       go rest true f = rw f (ap (λ (b : Bool). reserves g j r || b) (rest (later e)))
       go rest false f = rw f (rest (later e) ∙ sym (ap (λ (b : Bool). b || list_any (reserves g j) rs) (only_it r g j (begins r fit.0 f) (this e) out)))
 

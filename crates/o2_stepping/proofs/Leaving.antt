@@ -65,7 +65,9 @@ module _ (f : Filling) (b : Before) (e : Effect) (tally more : Tally) (cpu : Cpu
   lines_more has = length-append e.lines (Traps b.number 1 b.cpu.cs b.cpu.ip ∷ []) ∙ ap (λ (n : ℕ). n + 1) has ∙ sym one_more
 
   -- the exception behind a step, with its line whole or in part
-  pub made_with_trap : has_trap_flag b.cpu.flags ≡ true → e.changes ≡ [] → IsMade f e Live tally.bytes tally.lines cpu new j c d r s → Gains s q (lines_text (Traps b.number 1 b.cpu.cs b.cpu.ip ∷ [])) → IsDone (single_stepped b e) (record { state = Trapped 1; tally = more; whole = true }) cpu (whole f new).bytes j c d r q
+  pub made_with_trap : has_trap_flag b.cpu.flags ≡ true → e.changes ≡ [] → IsMade f e Live tally.bytes tally.lines cpu new j c d r s
+      → Gains s q (lines_text (Traps b.number 1 b.cpu.cs b.cpu.ip ∷ []))
+      → IsDone (single_stepped b e) (record { state = Trapped 1; tally = more; whole = true }) cpu (whole f new).bytes j c d r q
   made_with_trap flag quiet made took =
       subst (λ (x : Effect). IsDone x (record { state = Trapped 1; tally = more; whole = true }) cpu (whole f new).bytes j c d r q) (sym (with_flag b e flag made.state)) (record {
         state = refl;

@@ -54,7 +54,9 @@ joined xs ys a b e f = ages_both xs ys ∙ ap (λ (l : List ℕ). l ++ ages_of y
 pub ages_seated : (m : Maps) (pid : ℕ) (c : Cpu) → ages_of (seated_in m pid c) ≡ seated (bound_registers (hold_in m pid) c)
 ages_seated m pid c =
     joined (seat_of m pid c.es ++ seat_of m pid c.cs ++ seat_of m pid c.ss) (seat_of m pid c.ds) (name_of m pid c.es ++ name_of m pid c.cs ++ name_of m pid c.ss) (name_of m pid c.ds)
-    (joined (seat_of m pid c.es ++ seat_of m pid c.cs) (seat_of m pid c.ss) (name_of m pid c.es ++ name_of m pid c.cs) (name_of m pid c.ss) (joined (seat_of m pid c.es) (seat_of m pid c.cs) (name_of m pid c.es) (name_of m pid c.cs) (pair_name m pid c.es) (pair_name m pid c.cs)) (pair_name m pid c.ss))
+    (joined (seat_of m pid c.es ++ seat_of m pid c.cs) (seat_of m pid c.ss) (name_of m pid c.es ++ name_of m pid c.cs) (name_of m pid c.ss)
+    (joined (seat_of m pid c.es) (seat_of m pid c.cs) (name_of m pid c.es) (name_of m pid c.cs) (pair_name m pid c.es)
+    (pair_name m pid c.cs)) (pair_name m pid c.ss))
     (pair_name m pid c.ds)
 
 pair_few : (o : Option Held) → length (pair_of o) ≤ 1
@@ -99,7 +101,10 @@ live_pair s m pid z well = record { each = λ i p e. go (held_under m pid z) ref
 
 pub live_seated : (s : Shelf) (m : Maps) (pid : ℕ) (c : Cpu) → IsHeldWell s m → AreLive s (seated_in m pid c)
 live_seated s m pid c well =
-    live_more s (seat_of m pid c.es ++ seat_of m pid c.cs ++ seat_of m pid c.ss) (seat_of m pid c.ds) (live_more s (seat_of m pid c.es ++ seat_of m pid c.cs) (seat_of m pid c.ss) (live_more s (seat_of m pid c.es) (seat_of m pid c.cs) (live_pair s m pid c.es well) (live_pair s m pid c.cs well)) (live_pair s m pid c.ss well)) (live_pair s m pid c.ds well)
+    live_more s (seat_of m pid c.es ++ seat_of m pid c.cs ++ seat_of m pid c.ss) (seat_of m pid c.ds)
+    (live_more s (seat_of m pid c.es ++ seat_of m pid c.cs) (seat_of m pid c.ss)
+    (live_more s (seat_of m pid c.es) (seat_of m pid c.cs) (live_pair s m pid c.es well) (live_pair s m pid c.cs well))
+    (live_pair s m pid c.ss well)) (live_pair s m pid c.ds well)
 
 -- None gets another size.
 
@@ -122,7 +127,10 @@ none_pair (Some h) k = go (k == h.id.key)
 
 pub none_seated : (m : Maps) (pid : ℕ) (c : Cpu) (k : ℕ) → size_in (seated_in m pid c) k ≡ 0
 none_seated m pid c k =
-    none_more (seat_of m pid c.es ++ seat_of m pid c.cs ++ seat_of m pid c.ss) (seat_of m pid c.ds) k (none_more (seat_of m pid c.es ++ seat_of m pid c.cs) (seat_of m pid c.ss) k (none_more (seat_of m pid c.es) (seat_of m pid c.cs) k (none_pair (held_under m pid c.es) k) (none_pair (held_under m pid c.cs) k)) (none_pair (held_under m pid c.ss) k)) (none_pair (held_under m pid c.ds) k)
+    none_more (seat_of m pid c.es ++ seat_of m pid c.cs ++ seat_of m pid c.ss) (seat_of m pid c.ds) k
+    (none_more (seat_of m pid c.es ++ seat_of m pid c.cs) (seat_of m pid c.ss) k
+    (none_more (seat_of m pid c.es) (seat_of m pid c.cs) k (none_pair (held_under m pid c.es) k) (none_pair (held_under m pid c.cs) k))
+    (none_pair (held_under m pid c.ss) k)) (none_pair (held_under m pid c.ds) k)
 
 -- Each is still needed.
 

@@ -1,5 +1,6 @@
 -- Numbers that are listed, and what their segments take.
-use Rattle.std.proofs.Common.{◌≡◌, ◌≢◌, inl, inr, ℕ, zero, suc, ◌+◌, ◌*◌, ◌<◌, ◌≤◌, List, [], ◌∷◌, ◌++◌, length, get_or, Option, Some, None, is_some, IsSome, true, false, ◌||◌, ◌&&◌, arith, refl, sym, ◌∙◌, ap, nat_eq, eqb, ltb, subst, Bool, take, add-one, if◌then◌else◌}
+use Rattle.std.proofs.Common.{◌≡◌, ◌≢◌, inl, inr, ℕ, zero, suc, ◌+◌, ◌*◌, ◌<◌, ◌≤◌, List, [], ◌∷◌, ◌++◌, length, get_or, Option, Some, None, is_some, IsSome, true, false}
+use Rattle.std.proofs.Common.{◌||◌, ◌&&◌, arith, refl, sym, ◌∙◌, ap, nat_eq, eqb, ltb, subst, Bool, take, add-one, if◌then◌else◌}
 use Rattle.std.proofs.lemmas.Bool.{cases_eq, cases_lt, false≢true}
 use Rattle.std.specs.List.{list_any, IsDistinct}
 use Rattle.std.proofs.lemmas.Bool.Decides.{nat_tests}

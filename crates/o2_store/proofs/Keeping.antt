@@ -1,5 +1,6 @@
 -- Changes at one number that keep all bytes.
-use Rattle.std.proofs.Common.{◌≡◌, ◌≢◌, inl, inr, ℕ, ◌+◌, ◌/◌, ◌%◌, ◌<◌, ◌≤◌, List, length, get_or, set, Option, Some, None, is_some, IsSome, Bool, true, false, ltb, IsTrue, ◌&&◌, eqb, refl, sym, ap, ◌∙◌, subst, arith, unwrap_or, if◌then◌else◌}
+use Rattle.std.proofs.Common.{◌≡◌, ◌≢◌, inl, inr, ℕ, ◌+◌, ◌/◌, ◌%◌, ◌<◌, ◌≤◌, List, length, get_or, set, Option, Some, None, is_some, IsSome, Bool, true, false, ltb}
+use Rattle.std.proofs.Common.{IsTrue, ◌&&◌, eqb, refl, sym, ap, ◌∙◌, subst, arith, unwrap_or, if◌then◌else◌}
 use Rattle.std.proofs.lemmas.Bool.{cases_lt, cases_eq}
 use Rattle.std.proofs.lemmas.Bool.Decides.{nat_tests}
 use Rattle.std.proofs.lemmas.List.{length-set, get_or_past}

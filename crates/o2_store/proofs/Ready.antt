@@ -130,7 +130,9 @@ made_remove true s t key stale r = ap (λ (x : Shelf). x.made) (r refl).shelf
 made_remove false s t key stale r = ap (λ (x : Shelf). x.made) (stale refl)
 
 -- other attributes
-pub ready_attr : (s t : Shelf) (u : Turns) (im : ImageList) (n key : ℕ) (a : Attr) → IsReady s im n → key < length s.entries → t ≡ record s { turns = u; entries = set s.entries key (Some (record (entry s key) { attr = a })) } → a.clean ≡ (entry s key).attr.clean → IsReady t im n
+pub ready_attr : (s t : Shelf) (u : Turns) (im : ImageList) (n key : ℕ) (a : Attr) → IsReady s im n → key < length s.entries → t
+    ≡ record s { turns = u; entries = set s.entries key (Some (record (entry s key) { attr = a })) } → a.clean ≡ (entry s key).attr.clean
+    → IsReady t im n
 ready_attr s t u im n key a h l e clean =
     let f : Entry = record (entry s key) { attr = a } in
     let v : Shelf = record s { turns = u; entries = set s.entries key (Some f) } in

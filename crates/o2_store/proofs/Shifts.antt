@@ -1,5 +1,6 @@
 -- Segments that move, and those that come in.
-use Rattle.std.proofs.Common.{◌≡◌, ◌≢◌, ◌⊎◌, inl, inr, ℕ, ◌+◌, ◌/◌, ◌%◌, ◌<◌, ◌≤◌, List, [], length, get_or, set, Option, Some, None, is_some, IsSome, option_map, Bool, true, false, eqb, ltb, ◌&&◌, IsTrue, refl, sym, ap, ◌∙◌, subst, arith, unwrap_or, if◌then◌else◌}
+use Rattle.std.proofs.Common.{◌≡◌, ◌≢◌, ◌⊎◌, inl, inr, ℕ, ◌+◌, ◌/◌, ◌%◌, ◌<◌, ◌≤◌, List, [], length, get_or, set, Option, Some, None, is_some, IsSome, option_map, Bool}
+use Rattle.std.proofs.Common.{true, false, eqb, ltb, ◌&&◌, IsTrue, refl, sym, ap, ◌∙◌, subst, arith, unwrap_or, if◌then◌else◌}
 use Rattle.std.proofs.lemmas.Bool.{cases_lt, cases_eq}
 use Rattle.std.proofs.lemmas.Bool.Decides.{nat_tests}
 use Rattle.o2_entries.specs.declared.Entry.{Entry}
@@ -52,7 +53,8 @@ pub same_presence : (s t : Shelf) (k : ℕ) → IsMoved s t → is_some (place_o
 same_presence s t k q = presence_by s t k q (place_of s k) refl
 
 -- where a moved segment was
-pub moved_from : (s t : Shelf) (k at len : ℕ) → IsMoved s t → place_of t k ≡ Some (at, len) → (o : Option (ℕ × ℕ)) → place_of s k ≡ o → (x : ℕ) × (place_of s k ≡ Some (x, len)) × ((j : ℕ) → j < len → get_or t.memory (at + j) 0 ≡ get_or s.memory (x + j) 0)
+pub moved_from : (s t : Shelf) (k at len : ℕ) → IsMoved s t → place_of t k ≡ Some (at, len) → (o : Option (ℕ × ℕ)) → place_of s k ≡ o
+    → (x : ℕ) × (place_of s k ≡ Some (x, len)) × ((j : ℕ) → j < len → get_or t.memory (at + j) 0 ≡ get_or s.memory (x + j) 0)
 moved_from s t k at len q e None f = absurd (none_is_none e (q.none k f))
 moved_from s t k at len q e (Some r) f =
     let g = q.some k r.0 r.1 f in

@@ -1,5 +1,6 @@
 -- What keeps a store one where one number changes.
-use Rattle.std.proofs.Common.{◌≡◌, ◌≢◌, inl, inr, ℕ, zero, suc, ◌+◌, ◌-◌, ◌*◌, ◌/◌, ◌%◌, ◌<◌, ◌≤◌, ◌^◌, List, [], length, get_or, set, Option, Some, None, is_some, IsSome, Bool, true, false, eqb, ltb, ◌&&◌, refl, sym, ap, ◌∙◌, subst, arith, take, replicate, if◌then◌else◌}
+use Rattle.std.proofs.Common.{◌≡◌, ◌≢◌, inl, inr, ℕ, zero, suc, ◌+◌, ◌-◌, ◌*◌, ◌/◌, ◌%◌, ◌<◌, ◌≤◌, ◌^◌, List, [], length, get_or, set, Option, Some, None, is_some}
+use Rattle.std.proofs.Common.{IsSome, Bool, true, false, eqb, ltb, ◌&&◌, refl, sym, ap, ◌∙◌, subst, arith, take, replicate, if◌then◌else◌}
 use Rattle.std.proofs.lemmas.Bool.{cases_lt, cases_eq}
 use Rattle.std.proofs.lemmas.Bool.Decides.{nat_tests}
 use Rattle.std.proofs.lemmas.List.{get_or-set_other, get_or-set_same, length-set, get_or_past, get_or-replicate, length-replicate}

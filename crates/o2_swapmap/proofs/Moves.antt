@@ -10,7 +10,9 @@ use Rattle.o2_swapmap.specs.declared.piles.Pile.{Pile}
 use Rattle.o2_swapmap.specs.Piles.{no_block, no_pile, block, pile, IsPile, list_of, lists_of, ArePiles, Blocks, IsStep, NoneTwice, IsMap}
 
 -- a pile that isn't empty has its top among the blocks
-pub top_is : (bs : List Block) (owner top n : ℕ) → IsPile bs owner top n → 0 < n → (top < length bs) × ((block bs top).owner ≡ owner) × ((block bs top).rank + 1 ≡ n) × IsPile bs owner (block bs top).below (n - 1) × (pile bs top n ≡ pile bs (block bs top).below (n - 1) ++ top ∷ [])
+pub top_is : (bs : List Block) (owner top n : ℕ) → IsPile bs owner top n → 0 < n → (top < length bs) × ((block bs top).owner ≡ owner)
+    × ((block bs top).rank + 1 ≡ n) × IsPile bs owner (block bs top).below (n - 1)
+    × (pile bs top n ≡ pile bs (block bs top).below (n - 1) ++ top ∷ [])
 top_is bs owner top zero h l = absurd (omega arith)
 top_is bs owner top (suc n) h l =
     let e : suc n - 1 ≡ n = omega arith in
@@ -96,7 +98,9 @@ moved bs ps from to h f t ne some =
     let kept_from = pile-set bs x b from p.top p.count tf.3 (λ e. omega (arith, tf.2)) in
     let kept_to = pile-set bs x b to (at ps to).top (at ps to).count (h.each to t) (λ e. absurd (ne (sym tf.1 ∙ e))) in
     let on = on_top cs x to (at ps to).count b (get_or-set_same bs x b no_block tf.0) (rw (length-set bs x b) tf.0) refl refl kept_to.1 in
-    let kept_other : (k : ℕ) → k < length ps → k ≢ from → (pile cs (at ps k).top (at ps k).count ≡ pile bs (at ps k).top (at ps k).count) × IsPile cs k (at ps k).top (at ps k).count = λ k l n. pile-set bs x b k (at ps k).top (at ps k).count (h.each k l) (λ e. absurd (n (sym e ∙ tf.1))) in
+    let kept_other : (k : ℕ) → k < length ps → k ≢ from → (pile cs (at ps k).top (at ps k).count ≡ pile bs (at ps k).top (at ps k).count)
+    × IsPile cs k (at ps k).top (at ps k).count = λ k l n. pile-set bs x b k (at ps k).top (at ps k).count (h.each k l)
+    (λ e. absurd (n (sym e ∙ tf.1))) in
     record {
       sound = record {
         each = λ k l. elim (cases_eq k to) [
@@ -234,9 +238,14 @@ pub fresh_length : (ps : List Pile) (most n : ℕ) → ps ≡ set (replicate (mo
 fresh_length ps most n e = rw (e, length-set (replicate (most + 1) no_pile) most (record { top = 0; count = n }), length-replicate (most + 1) no_pile) (omega arith)
 
 pub fresh_free : (bs : List Block) (ps : List Pile) (most n : ℕ) → ps ≡ set (replicate (most + 1) no_pile) most (record { top = 0; count = n }) → length (get_or (lists_of bs ps) (length ps - 1) []) ≡ n
-fresh_free bs ps most n e = rw (fresh_length ps most n e) (length-list bs ps most ∙ ap (λ (r : Pile). r.count) (ap (λ qs. at qs most) e ∙ get_or-set_same (replicate (most + 1) no_pile) most (record { top = 0; count = n }) no_pile (rw (length-replicate (most + 1) no_pile) (omega arith))))
+fresh_free bs ps most n e = rw (fresh_length ps most n e)
+    (length-list bs ps most ∙ ap (λ (r : Pile). r.count)
+    (ap (λ qs. at qs most) e ∙ get_or-set_same (replicate (most + 1) no_pile) most (record { top = 0; count = n }) no_pile
+    (rw (length-replicate (most + 1) no_pile) (omega arith))))
 
-pub fresh_map : (bs : List Block) (ps : List Pile) (most n : ℕ) → length bs ≡ n → ((j : ℕ) → j < n → block bs j ≡ record { below = j + 1; owner = most; rank = n - 1 - j }) → ps ≡ set (replicate (most + 1) no_pile) most (record { top = 0; count = n }) → n ≤ 65536 → most < 2 ^ 32 - 1 → IsMap bs ps
+pub fresh_map : (bs : List Block) (ps : List Pile) (most n : ℕ) → length bs ≡ n
+    → ((j : ℕ) → j < n → block bs j ≡ record { below = j + 1; owner = most; rank = n - 1 - j }) → ps
+    ≡ set (replicate (most + 1) no_pile) most (record { top = 0; count = n }) → n ≤ 65536 → most < 2 ^ 32 - 1 → IsMap bs ps
 fresh_map bs ps most n size each e small few =
     let l : length ps ≡ most + 1 = rw (e, length-set (replicate (most + 1) no_pile) most (record { top = 0; count = n }), length-replicate (most + 1) no_pile) refl in
     record {

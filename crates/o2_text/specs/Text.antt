@@ -1,7 +1,9 @@
 -- The text of an instruction, as the manual and assemblers write it: prefixes, mnemonic, operands.
 use Rattle.std.specs.Prelude.{ℕ, ◌+◌, ◌-◌, ◌/◌, ◌%◌, Bool, true, false, ◌==◌, nat_lt, if◌then◌else◌, List, [], ◌∷◌, ◌++◌, codes}
 use Rattle.o2_isa.specs.declared.instr.Op.{Op}
-use Rattle.o2_isa.specs.declared.instr.Op.TheVariants.{OpBound, OpLea, OpLes, OpLds, OpSgdt, OpSidt, OpLgdt, OpLidt, OpCallFarAt, OpJmpFarAt, OpRet, OpRetf, OpJo, OpJno, OpJb, OpJae, OpJe, OpJne, OpJbe, OpJa, OpJs, OpJns, OpJp, OpJnp, OpJl, OpJge, OpJle, OpJg, OpLoop, OpLoope, OpLoopne, OpJcxz, OpCall, OpJmp}
+use Rattle.o2_isa.specs.declared.instr.Op.TheVariants.{OpBound, OpLea, OpLes, OpLds, OpSgdt, OpSidt, OpLgdt, OpLidt, OpCallFarAt, OpJmpFarAt, OpRet, OpRetf, OpJo, OpJno}
+use Rattle.o2_isa.specs.declared.instr.Op.TheVariants.{OpJb, OpJae, OpJe, OpJne, OpJbe, OpJa, OpJs, OpJns, OpJp, OpJnp, OpJl, OpJge, OpJle, OpJg, OpLoop, OpLoope}
+use Rattle.o2_isa.specs.declared.instr.Op.TheVariants.{OpLoopne, OpJcxz, OpCall, OpJmp}
 use Rattle.o2_isa.specs.declared.instr.Width.{Width}
 use Rattle.o2_isa.specs.declared.instr.Width.TheVariants.{Byte, Word}
 use Rattle.o2_isa.specs.declared.instr.Rep.{Rep}

@@ -159,7 +159,13 @@ swept_bare w =
     ap (λ (names : Map Segment). record (bare w) { names = names; reserved = used w.processes w.reserved; texts = told_of w.processes w.texts })
     (bare_filter (is_held w.processes) w.names ∙ filter_same (λ (e : ℕ × Segment). is_held w.processes e.0) (λ (e : ℕ × Segment). held_among ms e.0) (λ e. any_map (λ (m : Map Held). holds_name m e.0) w.processes) (bare_names w.names))
     ∙ (ap (λ (rs : List Reserve). record (bare w) { names = filter (λ (e : ℕ × Segment). held_among ms e.0) (bare_names w.names); reserved = rs; texts = told_of w.processes w.texts }) (filter_same (is_used w.processes) (used_among ms) (used_is w.processes) w.reserved)
-    ∙ ap (λ (ts : List (List ℕ × ℕ)). record (bare w) { names = filter (λ (e : ℕ × Segment). held_among ms e.0) (bare_names w.names); reserved = filter (used_among ms) w.reserved; texts = ts }) (filter_same (λ (t : List ℕ × ℕ). is_held w.processes t.1) (λ (t : List ℕ × ℕ). held_among ms t.1) (λ t. any_map (λ (m : Map Held). holds_name m t.1) w.processes) w.texts))
+    ∙ ap (λ (ts : List (List ℕ × ℕ)). record (bare w) {
+      names = filter (λ (e : ℕ × Segment). held_among ms e.0) (bare_names w.names);
+      reserved = filter (used_among ms) w.reserved;
+      texts = ts;
+    })
+    (filter_same (λ (t : List ℕ × ℕ). is_held w.processes t.1) (λ (t : List ℕ × ℕ). held_among ms t.1)
+    (λ t. any_map (λ (m : Map Held). holds_name m t.1) w.processes) w.texts))
   where
     ms : List (Map Held)
     ms = held_maps w.processes

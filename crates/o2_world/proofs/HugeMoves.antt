@@ -1,5 +1,6 @@
 -- What each call on a huge allocation changes, by its shape.
-use Rattle.std.proofs.Common.{◌≡◌, ◌⊎◌, inl, inr, ℕ, zero, suc, ◌+◌, ◌-◌, ◌<◌, ◌≤◌, ◌==◌, ◌/◌, nat_lt, nat_le, ◌&&◌, ◌||◌, Bool, true, false, cond, List, [], ◌∷◌, ◌++◌, length, Option, Some, None, if◌then◌else◌, ap, ◌∙◌, refl, arith, subst}
+use Rattle.std.proofs.Common.{◌≡◌, ◌⊎◌, inl, inr, ℕ, zero, suc, ◌+◌, ◌-◌, ◌<◌, ◌≤◌, ◌==◌, ◌/◌, nat_lt, nat_le, ◌&&◌, ◌||◌, Bool, true, false, cond, List, [], ◌∷◌, ◌++◌}
+use Rattle.std.proofs.Common.{length, Option, Some, None, if◌then◌else◌, ap, ◌∙◌, refl, arith, subst}
 use Rattle.std.specs.Prelude.{codes, drop, flat_map, is_some, max}
 use Rattle.o2_desc.specs.Bits.{has_bit}
 use Rattle.o2_desc.specs.Choice.{IsChosen, chosen}
@@ -16,7 +17,9 @@ use Rattle.o2_world.specs.CallParts.{Before, Effect, argument, has_arguments, ma
 use Rattle.o2_world.specs.Rulings.{Ruling, dropped_indexes, full_size, held_under, in_use, indexes, is_in_run, members, region_by}
 use Rattle.o2_world.specs.SegmentCalls.{Written, ruled_at, written_word}
 use Rattle.o2_world.specs.SharedRulings.{marks_under, shared_from}
-use Rattle.o2_world.specs.HugeRulings.{all_bytes, all_dropped, all_hold, bytes_of, dropped_members, flags_in, free_run, huge_allocation, huge_at, huge_reallocation, huge_reallocation_of, huge_shift, is_first, is_huge_fault, is_unheld, left_in_run, names_one, new_members, other_shares, resized_members, resized_one, run_changes, run_reserve, run_resized, segments_of, share_of, sizes_of, without}
+use Rattle.o2_world.specs.HugeRulings.{all_bytes, all_dropped, all_hold, bytes_of, dropped_members, flags_in, free_run, huge_allocation, huge_at, huge_reallocation}
+use Rattle.o2_world.specs.HugeRulings.{huge_reallocation_of, huge_shift, is_first, is_huge_fault, is_unheld, left_in_run, names_one, new_members, other_shares}
+use Rattle.o2_world.specs.HugeRulings.{resized_members, resized_one, run_changes, run_reserve, run_resized, segments_of, share_of, sizes_of, without}
 use Rattle.o2_world.specs.HugeCalls.{allocated_huge, dos_alloc_huge, dos_get_huge_shift, dos_realloc_huge, huge_args, on_runs, reallocated_huge}
 use Rattle.o2_world.specs.Moves.{AreApart, AreHolders, AreOfRuling, Each, IsFreeIndex, IsOpen, Maker, NoRun, OfAllocation, OfNone, OfReallocation, RunMade, RunMoves, RunSized, Sharer}
 use Rattle.o2_world.proofs.SegmentMoves.{above, apart_kept, held_there, indexes_apart, indexes_from, kept_are, members_apart, members_held, region_is}
@@ -304,7 +307,10 @@ module _ (b : Before) (next segs part s : ℕ) where
           second false y e = absurd (cc)
 
       go : (a c d : Bool) → ((nat_le shared_from h.first && nat_lt (bytes_of segs part) (all_bytes known b.number is)) || in_use b.cpu (drop (segments_of segs part) is)) ≡ d → (f : Bool)
-          → let r : Ruling = if a then record { error = 87; value = 0; changes = [] } else (if c then record { error = 8; value = 0; changes = [] } else (if d then record { error = 5; value = 0; changes = [] } else (if f then record { error = 8; value = 0; changes = [] } else done h is))) in
+          → let r : Ruling = if a then record { error = 87; value = 0; changes = [] }
+          else (if c then record { error = 8; value = 0; changes = [] }
+          else (if d then record { error = 5; value = 0; changes = [] }
+          else (if f then record { error = 8; value = 0; changes = [] } else done h is))) in
           RunMoves b (behind r (returned b.cpu next 3 error)) r.changes
       go true c d e f = NoRun refl
       go false true d e f = NoRun refl

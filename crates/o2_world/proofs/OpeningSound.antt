@@ -14,7 +14,9 @@ use Rattle.o2_world.specs.World.{World, Process, Segment, Held, is_live}
 use Rattle.o2_world.specs.Holders.{holds_name, is_held}
 use Rattle.o2_base.specs.Selectors.{selector_of}
 use Rattle.o2_world.specs.Opening.{held_by_load}
-use Rattle.o2_world.specs.Starts.{Loaded, LoadedSegment, Start, Holding, Built, holdings, nth_loaded, image_size, stack_number, data_selector, first_cpu, first_process, is_stack, is_entry, start_check, nothing_built, segment_of, name_in, made_with, holds_as, with_holding, with_holdings, with_started, within_names, where_checked, next_started, where_started, world_of}
+use Rattle.o2_world.specs.Starts.{Loaded, LoadedSegment, Start, Holding, Built, holdings, nth_loaded, image_size, stack_number, data_selector, first_cpu, first_process}
+use Rattle.o2_world.specs.Starts.{is_stack, is_entry, start_check, nothing_built, segment_of, name_in, made_with, holds_as, with_holding, with_holdings, with_started}
+use Rattle.o2_world.specs.Starts.{within_names, where_checked, next_started, where_started, world_of}
 use Rattle.o2_world.specs.Sound.{HasGoodRegisters, NamesHeld, has_rights, held_in}
 use Rattle.o2_world.specs.FitStarts.{IsFit}
 use Rattle.o2_world.proofs.Holding.{under}

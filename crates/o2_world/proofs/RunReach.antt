@@ -87,7 +87,9 @@ module _ (w : World) (d : Dispatch) (p : Process) (e : Effect) (at : process_at 
 
   pub told_after_step : IsTold (changed w d p e)
   told_after_step = record {
-    live = λ q i here none. subst (λ (ls : List Line). holds_at (changed w d p e) q i + went ls q (selector_of i) ≡ came ls q (selector_of i)) (sym (lines_are w d p e)) (live q i here (sym (end_append w.lines e.lines q) ∙ ap (λ (ls : List Line). tells_end ls q) (sym (lines_are w d p e)) ∙ none));
+    live = λ q i here none. subst (λ (ls : List Line). holds_at (changed w d p e) q i + went ls q (selector_of i)
+        ≡ came ls q (selector_of i)) (sym (lines_are w d p e))
+        (live q i here (sym (end_append w.lines e.lines q) ∙ ap (λ (ls : List Line). tells_end ls q) (sym (lines_are w d p e)) ∙ none));
     ended = λ q i here it. gone q i here (tells_end e.lines q) refl (sym (end_append w.lines e.lines q) ∙ ap (λ (ls : List Line). tells_end ls q) (sym (lines_are w d p e)) ∙ it);
   }
     where

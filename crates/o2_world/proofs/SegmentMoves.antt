@@ -14,7 +14,10 @@ use Rattle.o2_world.specs.World.{Held}
 use Rattle.o2_world.specs.Changes.{Drops}
 use Rattle.o2_world.specs.Known.{Known, Marks}
 use Rattle.o2_world.specs.CallParts.{Before, Effect, argument, has_arguments, may_write, returned}
-use Rattle.o2_world.specs.Rulings.{Ruling, aliasing, aliasing_at, aliasing_of, allocation, allocation_at, by_load, dropped_indexes, free_index, freed_cpu, freeing, freeing_of, full_size, grants, held_under, in_use, indexes, is_alias, is_discardable, is_gone, is_in_run, is_later, keeps_its_size, locking_of, locking_with, members, reallocation_of, reallocation_with, refusal, region_by, sizing, sizing_of, sizing_with, unlocking_of, unlocking_with}
+use Rattle.o2_world.specs.Rulings.{Ruling, aliasing, aliasing_at, aliasing_of, allocation, allocation_at, by_load, dropped_indexes, free_index, freed_cpu, freeing}
+use Rattle.o2_world.specs.Rulings.{freeing_of, full_size, grants, held_under, in_use, indexes, is_alias, is_discardable, is_gone, is_in_run, is_later, keeps_its_size}
+use Rattle.o2_world.specs.Rulings.{locking_of, locking_with, members, reallocation_of, reallocation_with, refusal, region_by, sizing, sizing_of, sizing_with}
+use Rattle.o2_world.specs.Rulings.{unlocking_of, unlocking_with}
 use Rattle.o2_world.specs.SegmentCalls.{Written, alloc_args, aliased, allocated, dos_alloc_seg, dos_create_cs_alias, dos_free_seg, dos_lock_seg, dos_realloc_seg, dos_size_seg, dos_unlock_seg, freed, on_segments, ruled_at, sized, written_long, written_word}
 use Rattle.o2_world.specs.Moves.{AreApart, AreMembers, Each, IsFreeIndex, IsFreeing, IsHeldAlone, Moves, NoneMoves, OneAliased, OneLocked, OneMade, OneSized, SomeFreed}
 

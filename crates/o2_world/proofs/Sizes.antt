@@ -305,6 +305,12 @@ pub effect_sizes : (b : Before) (q : ℕ) → length ((effect b).bytes q) ≡ le
 unfolding effect
 effect_sizes b q = (go (has_trap_flag b.cpu.flags && is_live (answered b (stepped (state b.cpu b.view))).state) (answered_sizes b (stepped (state b.cpu b.view)) refl)).same q
   where
-    go : (t : Bool) → Keeps b (answered b (stepped (state b.cpu b.view))) → Keeps b (cond t (record (answered b (stepped (state b.cpu b.view))) { state = Rattle.o2_world.specs.declared.types.State.TheVariants.Trapped 1; lines = (answered b (stepped (state b.cpu b.view))).lines ++ Rattle.o2_world.specs.World.Traps b.number 1 b.cpu.cs b.cpu.ip ∷ [] }) (answered b (stepped (state b.cpu b.view))))
+    go : (t : Bool) → Keeps b (answered b (stepped (state b.cpu b.view)))
+        → Keeps b (cond t (record (answered b (stepped (state b.cpu b.view))) {
+          state = Rattle.o2_world.specs.declared.types.State.TheVariants.Trapped 1;
+          lines =
+              (answered b (stepped (state b.cpu b.view))).lines ++ Rattle.o2_world.specs.World.Traps b.number 1 b.cpu.cs b.cpu.ip ∷ [];
+        })
+        (answered b (stepped (state b.cpu b.view))))
     go true k = k
     go false k = k

@@ -1,5 +1,6 @@
 -- A step keeps what is held told by the lines.
-use Rattle.std.proofs.Common.{◌≡◌, ◌≢◌, ◌⊎◌, inl, inr, ℕ, zero, suc, ◌-◌, ◌<◌, ◌≤◌, ◌/◌, ◌==◌, ◌&&◌, Bool, true, false, List, [], ◌∷◌, map, length, replicate, Option, Some, None, if◌then◌else◌, ap, sym, ◌∙◌, refl, arith, subst, slice_set}
+use Rattle.std.proofs.Common.{◌≡◌, ◌≢◌, ◌⊎◌, inl, inr, ℕ, zero, suc, ◌-◌, ◌<◌, ◌≤◌, ◌/◌, ◌==◌, ◌&&◌, Bool, true, false, List, [], ◌∷◌, map, length, replicate, Option}
+use Rattle.std.proofs.Common.{Some, None, if◌then◌else◌, ap, sym, ◌∙◌, refl, arith, subst, slice_set}
 use Rattle.std.specs.Prelude.{is_some, slice_get, flat_map}
 use Rattle.std.proofs.lemmas.Bool.{false≢true}
 use Rattle.o2_base.specs.Selectors.{selector_of}
@@ -262,7 +263,10 @@ module _ (s : Setting) (w : World) (p : Process) (d : Dispatch) (at : process_at
   can_tell (OneLocked name count is) = subst (CanTellAll v) (sym is) (tt, tt)
   can_tell (OneAliased index i h there alone free is) = subst (CanTellAll v) (sym is) (there_now, tt)
   can_tell (SomeFreed xs frees is) =
-      subst (CanTellAll v) (sym is) (drops_tell v d.current xs there_now frees.apart (each_among (λ (j : ℕ). 1 ≤ holds_at v d.current j) xs (λ j among. subst (λ (k : ℕ). 1 ≤ k) (sym (same_holds j)) (freed j (get p.held j) refl (at_each (λ (i : ℕ). is_some (b.known.held b.number i) ≡ true) xs j frees.held among)))))
+      subst (CanTellAll v) (sym is) (drops_tell v d.current xs there_now frees.apart
+      (each_among (λ (j : ℕ). 1 ≤ holds_at v d.current j) xs
+      (λ j among. subst (λ (k : ℕ). 1 ≤ k) (sym (same_holds j))
+      (freed j (get p.held j) refl (at_each (λ (i : ℕ). is_some (b.known.held b.number i) ≡ true) xs j frees.held among)))))
     where
       freed : (j : ℕ) (o : Option Held) → get p.held j ≡ o → is_some (b.known.held b.number j) ≡ true → 1 ≤ holds_at w d.current j
       freed j None f g = absurd (false≢true (sym (ap is_some (ap (λ (x : Option Process). held_of x j) at ∙ f)) ∙ g))

@@ -1,5 +1,6 @@
 -- Each change that is fit keeps a world tied.
-use Rattle.std.proofs.Common.{◌≡◌, ◌≢◌, ◌⊎◌, inl, inr, ℕ, zero, suc, ◌+◌, ◌-◌, ◌<◌, ◌≤◌, ◌/◌, ◌==◌, nat_lt, Bool, true, false, List, [], ◌∷◌, length, take, replicate, Option, Some, None, if◌then◌else◌, ap, sym, ◌∙◌, refl, arith, subst, length-append}
+use Rattle.std.proofs.Common.{◌≡◌, ◌≢◌, ◌⊎◌, inl, inr, ℕ, zero, suc, ◌+◌, ◌-◌, ◌<◌, ◌≤◌, ◌/◌, ◌==◌, nat_lt, Bool, true, false, List, [], ◌∷◌, length, take, replicate}
+use Rattle.std.proofs.Common.{Option, Some, None, if◌then◌else◌, ap, sym, ◌∙◌, refl, arith, subst, length-append}
 use Rattle.std.specs.Prelude.{slice_get, option_map, is_some}
 use Rattle.o2_isa.specs.View.{is_null, is_writable, is_readable, is_code}
 use Rattle.o2_world.specs.declared.types.State.{State}
@@ -297,7 +298,14 @@ holds_tied w p j n some fit tied = record {
   ended = each_from {P = λ x. is_live x.state ≡ false → x.held ≡ []} w.processes (p - 1) (put_held (more n) j) tied.ended
       (λ x there ends. absurd (let a : true ≡ false = sym (fit.goes_on x (if_no (p == 0) None (slice_get w.processes (p - 1)) some ∙ there)) ∙ ends in cc));
   registers = each_from {P = λ x. is_live x.state ≡ true → HasGoodRegisters x} w.processes (p - 1) (put_held (more n) j) tied.registers
-      (λ x there lives. registers_still x (more n) j (record { cs = λ _. more_keeps n is_code (get x.held j); ss = λ _. more_keeps n is_writable (get x.held j); ds = inr (λ _. more_keeps n is_readable (get x.held j)); es = inr (λ _. more_keeps n is_readable (get x.held j)) }) (tied.registers (p - 1) x there lives));
+      (λ x there lives. registers_still x (more n) j (record {
+        cs = λ _. more_keeps n is_code (get x.held j);
+        ss = λ _. more_keeps n is_writable (get x.held j);
+        ds = inr
+            (λ _. more_keeps n is_readable (get x.held j));
+        es = inr (λ _. more_keeps n is_readable (get x.held j));
+      })
+      (tied.registers (p - 1) x there lives));
 }
   where
     From : ℕ → ℕ → Held → Type 0

@@ -220,9 +220,13 @@ pub fn segment_calls_answer_by_their_rows()
 pub fn shared_calls_answer_by_their_rows()
     // Names are compared folded.
     ensures named { told_by_two ((1, names_of 16 0) ∷ (2, names_of 16 12) ∷ (2, shares 12) ∷ [])
-        ≡ text_of (codes "1 call DosAllocShrSeg 0010 0017:0000 0017:0034 = 0 8007" ∷ codes "1 hold 8007 by DosAllocShrSeg" ∷ codes "2 call DosAllocShrSeg 0010 0017:000C 0017:0034 = 183" ∷ codes "2 call DosGetShrSeg 0017:000C 0017:0034 = 0 8007" ∷ codes "2 hold 8007 by DosGetShrSeg" ∷ []) }
+        ≡ text_of (codes "1 call DosAllocShrSeg 0010 0017:0000 0017:0034 = 0 8007" ∷ codes "1 hold 8007 by DosAllocShrSeg"
+        ∷ codes "2 call DosAllocShrSeg 0010 0017:000C 0017:0034 = 183" ∷ codes "2 call DosGetShrSeg 0017:000C 0017:0034 = 0 8007"
+        ∷ codes "2 hold 8007 by DosGetShrSeg" ∷ []) }
     ensures bad_names { told_by_two ((1, names_of 16 24) ∷ (1, names_of 16 35) ∷ (1, names_of 16 1) ∷ (1, shares 24) ∷ (1, shares 0) ∷ [])
-        ≡ text_of (codes "1 call DosAllocShrSeg 0010 0017:0018 0017:0034 = 123" ∷ codes "1 call DosAllocShrSeg 0010 0017:0023 0017:0034 = 123" ∷ codes "1 call DosAllocShrSeg 0010 0017:0001 0017:0034 = 123" ∷ codes "1 call DosGetShrSeg 0017:0018 0017:0034 = 123" ∷ codes "1 call DosGetShrSeg 0017:0000 0017:0034 = 2" ∷ []) }
+        ≡ text_of (codes "1 call DosAllocShrSeg 0010 0017:0018 0017:0034 = 123"
+        ∷ codes "1 call DosAllocShrSeg 0010 0017:0023 0017:0034 = 123" ∷ codes "1 call DosAllocShrSeg 0010 0017:0001 0017:0034 = 123"
+        ∷ codes "1 call DosGetShrSeg 0017:0018 0017:0034 = 123" ∷ codes "1 call DosGetShrSeg 0017:0000 0017:0034 = 2" ∷ []) }
     // 128 bytes and a zero are a name, 129 bytes without one are none, and a text that its segment cuts off is a bad pointer.
     ensures longest { name_by (before_zero (take 129 (92 ∷ codes "sharemem" ++ 92 ∷ replicate 118 33 ++ 0 ∷ []))) ≡ Some (92 ∷ codes "sharemem" ++ 92 ∷ replicate 118 33) }
     ensures too_long { name_by (before_zero (take 129 (92 ∷ codes "sharemem" ++ 92 ∷ replicate 119 33 ++ 0 ∷ []))) ≡ None }
@@ -231,7 +235,11 @@ pub fn shared_calls_answer_by_their_rows()
     ensures looks_past { looked_at 129 (replicate 12 33) ≡ 129 }
     // A text goes with the last hold of its segment, and the name may be made again.
     ensures dies { told_by_two ((1, names_of 16 0) ∷ (2, shares 0) ∷ (1, frees 0x8007) ∷ (2, frees 0x8004) ∷ (2, shares 0) ∷ (2, names_of 16 0) ∷ [])
-        ≡ text_of (codes "1 call DosAllocShrSeg 0010 0017:0000 0017:0034 = 0 8007" ∷ codes "1 hold 8007 by DosAllocShrSeg" ∷ codes "2 call DosGetShrSeg 0017:0000 0017:0034 = 0 8007" ∷ codes "2 hold 8007 by DosGetShrSeg" ∷ codes "1 call DosFreeSeg 8007 = 0" ∷ codes "1 drop 8007 by DosFreeSeg" ∷ codes "2 call DosFreeSeg 8004 = 0" ∷ codes "2 drop 8007 by DosFreeSeg" ∷ codes "2 call DosGetShrSeg 0017:0000 0017:0034 = 2" ∷ codes "2 call DosAllocShrSeg 0010 0017:0000 0017:0034 = 0 8007" ∷ codes "2 hold 8007 by DosAllocShrSeg" ∷ []) }
+        ≡ text_of (codes "1 call DosAllocShrSeg 0010 0017:0000 0017:0034 = 0 8007" ∷ codes "1 hold 8007 by DosAllocShrSeg"
+        ∷ codes "2 call DosGetShrSeg 0017:0000 0017:0034 = 0 8007" ∷ codes "2 hold 8007 by DosGetShrSeg"
+        ∷ codes "1 call DosFreeSeg 8007 = 0" ∷ codes "1 drop 8007 by DosFreeSeg" ∷ codes "2 call DosFreeSeg 8004 = 0"
+        ∷ codes "2 drop 8007 by DosFreeSeg" ∷ codes "2 call DosGetShrSeg 0017:0000 0017:0034 = 2"
+        ∷ codes "2 call DosAllocShrSeg 0010 0017:0000 0017:0034 = 0 8007" ∷ codes "2 hold 8007 by DosAllocShrSeg" ∷ []) }
     ensures texts { texts_behind two_sharers ((1, names_of 16 0) ∷ []) ≡ 5 ∷ [] }
     ensures no_texts { texts_behind two_sharers ((1, names_of 16 0) ∷ (1, frees 0x8007) ∷ []) ≡ [] }
     // A named segment has no flags, so it is neither given nor got, and it doesn't shrink.
@@ -239,37 +247,74 @@ pub fn shared_calls_answer_by_their_rows()
         ≡ text_of (codes "1 call DosAllocShrSeg 0010 0017:0000 0017:0034 = 0 8007" ∷ codes "1 hold 8007 by DosAllocShrSeg" ∷ codes "1 call DosGiveSeg 8007 0002 0017:0034 = 5" ∷ codes "2 call DosGetSeg 8007 = 5" ∷ codes "1 call DosReallocSeg 000F 8007 = 5" ∷ []) }
     // Of two that hold a segment, a free takes the caller's hold alone.
     ensures gets { told_by_two ((1, allocs 16 2) ∷ (2, gets 0x8004) ∷ (2, frees 0x8007) ∷ (1, gets 0x8007) ∷ (2, gets 0x27) ∷ (2, gets 0x800f) ∷ (2, gives 0x8007 2) ∷ (1, gives 0x8007 2) ∷ [])
-        ≡ text_of (codes "1 call DosAllocSeg 0010 0017:0000 0002 = 0 8007" ∷ codes "1 hold 8007 by DosAllocSeg" ∷ codes "2 call DosGetSeg 8004 = 0" ∷ codes "2 hold 8007 by DosGetSeg" ∷ codes "2 call DosFreeSeg 8007 = 0" ∷ codes "2 drop 8007 by DosFreeSeg" ∷ codes "1 call DosGetSeg 8007 = 0" ∷ codes "1 hold 8007 by DosGetSeg" ∷ codes "2 call DosGetSeg 0027 = 5" ∷ codes "2 call DosGetSeg 800F = 5" ∷ codes "2 call DosGiveSeg 8007 0002 0017:0034 = 5" ∷ codes "1 call DosGiveSeg 8007 0002 0017:0034 = 5" ∷ []) }
+        ≡ text_of (codes "1 call DosAllocSeg 0010 0017:0000 0002 = 0 8007" ∷ codes "1 hold 8007 by DosAllocSeg"
+        ∷ codes "2 call DosGetSeg 8004 = 0" ∷ codes "2 hold 8007 by DosGetSeg" ∷ codes "2 call DosFreeSeg 8007 = 0"
+        ∷ codes "2 drop 8007 by DosFreeSeg" ∷ codes "1 call DosGetSeg 8007 = 0" ∷ codes "1 hold 8007 by DosGetSeg"
+        ∷ codes "2 call DosGetSeg 0027 = 5" ∷ codes "2 call DosGetSeg 800F = 5" ∷ codes "2 call DosGiveSeg 8007 0002 0017:0034 = 5"
+        ∷ codes "1 call DosGiveSeg 8007 0002 0017:0034 = 5" ∷ []) }
     // To itself: one more hold, and two frees are needed. Number 0, one that never started and one that has ended are no processes.
     ensures gives { told_by_two ((1, allocs 16 1) ∷ (1, gives 0x8007 1) ∷ (1, gives 0x8007 0) ∷ (1, gives 0x8007 3) ∷ (1, frees 0x8007) ∷ (1, frees 0x8007) ∷ (1, frees 0x8007) ∷ [])
-        ≡ text_of (codes "1 call DosAllocSeg 0010 0017:0000 0001 = 0 8007" ∷ codes "1 hold 8007 by DosAllocSeg" ∷ codes "1 call DosGiveSeg 8007 0001 0017:0034 = 0 8007" ∷ codes "1 hold 8007 by DosGiveSeg" ∷ codes "1 call DosGiveSeg 8007 0000 0017:0034 = 303" ∷ codes "1 call DosGiveSeg 8007 0003 0017:0034 = 303" ∷ codes "1 call DosFreeSeg 8007 = 0" ∷ codes "1 drop 8007 by DosFreeSeg" ∷ codes "1 call DosFreeSeg 8007 = 0" ∷ codes "1 drop 8007 by DosFreeSeg" ∷ codes "1 call DosFreeSeg 8007 = 5" ∷ []) }
+        ≡ text_of (codes "1 call DosAllocSeg 0010 0017:0000 0001 = 0 8007" ∷ codes "1 hold 8007 by DosAllocSeg"
+        ∷ codes "1 call DosGiveSeg 8007 0001 0017:0034 = 0 8007" ∷ codes "1 hold 8007 by DosGiveSeg"
+        ∷ codes "1 call DosGiveSeg 8007 0000 0017:0034 = 303" ∷ codes "1 call DosGiveSeg 8007 0003 0017:0034 = 303"
+        ∷ codes "1 call DosFreeSeg 8007 = 0" ∷ codes "1 drop 8007 by DosFreeSeg" ∷ codes "1 call DosFreeSeg 8007 = 0"
+        ∷ codes "1 drop 8007 by DosFreeSeg" ∷ codes "1 call DosFreeSeg 8007 = 5" ∷ []) }
     ensures ended { lines_behind one_left ((2, allocs 16 1) ∷ (2, gives 0x8007 1) ∷ [])
         ≡ text_of (codes "2 call DosAllocSeg 0010 0017:0000 0001 = 0 8007" ∷ codes "2 hold 8007 by DosAllocSeg" ∷ codes "2 call DosGiveSeg 8007 0001 0017:0034 = 303" ∷ []) }
     // What one process makes larger is larger for all that hold it, and the new bytes are zeros.
     ensures grows { told_by_two ((1, allocs 16 2) ∷ (2, gets 0x8007) ∷ (2, reallocs 32 0x8007) ∷ (1, sizes 0x8007) ∷ [])
-        ≡ text_of (codes "1 call DosAllocSeg 0010 0017:0000 0002 = 0 8007" ∷ codes "1 hold 8007 by DosAllocSeg" ∷ codes "2 call DosGetSeg 8007 = 0" ∷ codes "2 hold 8007 by DosGetSeg" ∷ codes "2 call DosReallocSeg 0020 8007 = 0" ∷ codes "1 call DosSizeSeg 8007 0017:0004 = 0 00000020" ∷ []) }
+        ≡ text_of (codes "1 call DosAllocSeg 0010 0017:0000 0002 = 0 8007" ∷ codes "1 hold 8007 by DosAllocSeg"
+        ∷ codes "2 call DosGetSeg 8007 = 0" ∷ codes "2 hold 8007 by DosGetSeg" ∷ codes "2 call DosReallocSeg 0020 8007 = 0"
+        ∷ codes "1 call DosSizeSeg 8007 0017:0004 = 0 00000020" ∷ []) }
     ensures zero { byte_behind two_sharers ((1, allocs 16 2) ∷ (2, gets 0x8007) ∷ (2, reallocs 32 0x8007) ∷ []) 5 31 ≡ 0 }
 {}
 
 /// What each call on a huge allocation answers, with each error, for two processes.
 pub fn huge_calls_answer_by_their_rows()
     ensures makes { told_by_two ((1, huges 2 0x64 4 0) ∷ (1, allocs 16 0) ∷ (1, rehuges 4 1 0x27) ∷ (1, rehuges 4 0 0x27) ∷ (1, sizes 0x37) ∷ [])
-        ≡ text_of (codes "1 call DosAllocHuge 0002 0064 0017:0034 0004 0000 = 0 0027" ∷ codes "1 hold 0027 by DosAllocHuge" ∷ codes "1 hold 002F by DosAllocHuge" ∷ codes "1 hold 0037 by DosAllocHuge" ∷ codes "1 call DosAllocSeg 0010 0017:0000 0000 = 0 0047" ∷ codes "1 hold 0047 by DosAllocSeg" ∷ codes "1 call DosReallocHuge 0004 0001 0027 = 8" ∷ codes "1 call DosReallocHuge 0004 0000 0027 = 0" ∷ codes "1 hold 003F by DosReallocHuge" ∷ codes "1 call DosSizeSeg 0037 0017:0004 = 0 00010000" ∷ []) }
+        ≡ text_of (codes "1 call DosAllocHuge 0002 0064 0017:0034 0004 0000 = 0 0027" ∷ codes "1 hold 0027 by DosAllocHuge"
+        ∷ codes "1 hold 002F by DosAllocHuge" ∷ codes "1 hold 0037 by DosAllocHuge"
+        ∷ codes "1 call DosAllocSeg 0010 0017:0000 0000 = 0 0047" ∷ codes "1 hold 0047 by DosAllocSeg"
+        ∷ codes "1 call DosReallocHuge 0004 0001 0027 = 8" ∷ codes "1 call DosReallocHuge 0004 0000 0027 = 0"
+        ∷ codes "1 hold 003F by DosReallocHuge" ∷ codes "1 call DosSizeSeg 0037 0017:0004 = 0 00010000" ∷ []) }
     // 87 for flags, for no segment, and for a most that is below their number, before 8.
     ensures faults { told_by_two ((1, huges 1 0 0 16) ∷ (1, huges 1 0 0 4) ∷ (1, huges 0 0 0 0) ∷ (1, huges 2 1 2 0) ∷ (1, huges 0xFFFF 1 0 0) ∷ (1, huges 1024 0 0 0) ∷ (1, huges 0 1 4093 0) ∷ [])
-        ≡ text_of (codes "1 call DosAllocHuge 0001 0000 0017:0034 0000 0010 = 87" ∷ codes "1 call DosAllocHuge 0001 0000 0017:0034 0000 0004 = 87" ∷ codes "1 call DosAllocHuge 0000 0000 0017:0034 0000 0000 = 87" ∷ codes "1 call DosAllocHuge 0002 0001 0017:0034 0002 0000 = 87" ∷ codes "1 call DosAllocHuge FFFF 0001 0017:0034 0000 0000 = 8" ∷ codes "1 call DosAllocHuge 0400 0000 0017:0034 0000 0000 = 8" ∷ codes "1 call DosAllocHuge 0000 0001 0017:0034 0FFD 0000 = 8" ∷ []) }
+        ≡ text_of (codes "1 call DosAllocHuge 0001 0000 0017:0034 0000 0010 = 87"
+        ∷ codes "1 call DosAllocHuge 0001 0000 0017:0034 0000 0004 = 87"
+        ∷ codes "1 call DosAllocHuge 0000 0000 0017:0034 0000 0000 = 87"
+        ∷ codes "1 call DosAllocHuge 0002 0001 0017:0034 0002 0000 = 87" ∷ codes "1 call DosAllocHuge FFFF 0001 0017:0034 0000 0000 = 8"
+        ∷ codes "1 call DosAllocHuge 0400 0000 0017:0034 0000 0000 = 8" ∷ codes "1 call DosAllocHuge 0000 0001 0017:0034 0FFD 0000 = 8"
+        ∷ []) }
     // A run is freed as a whole, by its first selector, and so are the indexes that are reserved for it; it is not sized alone.
     ensures frees { told_by_two ((1, huges 1 1 3 0) ∷ (1, frees 0x2f) ∷ (1, reallocs 16 0x27) ∷ (1, aliases 0x27) ∷ (1, frees 0x27) ∷ (1, allocs 16 0) ∷ (1, allocs 16 0) ∷ [])
-        ≡ text_of (codes "1 call DosAllocHuge 0001 0001 0017:0034 0003 0000 = 0 0027" ∷ codes "1 hold 0027 by DosAllocHuge" ∷ codes "1 hold 002F by DosAllocHuge" ∷ codes "1 call DosFreeSeg 002F = 5" ∷ codes "1 call DosReallocSeg 0010 0027 = 5" ∷ codes "1 call DosCreateCSAlias 0027 0017:0000 = 5" ∷ codes "1 call DosFreeSeg 0027 = 0" ∷ codes "1 drop 0027 by DosFreeSeg" ∷ codes "1 drop 002F by DosFreeSeg" ∷ codes "1 call DosAllocSeg 0010 0017:0000 0000 = 0 0027" ∷ codes "1 hold 0027 by DosAllocSeg" ∷ codes "1 call DosAllocSeg 0010 0017:0000 0000 = 0 002F" ∷ codes "1 hold 002F by DosAllocSeg" ∷ []) }
+        ≡ text_of (codes "1 call DosAllocHuge 0001 0001 0017:0034 0003 0000 = 0 0027" ∷ codes "1 hold 0027 by DosAllocHuge"
+        ∷ codes "1 hold 002F by DosAllocHuge" ∷ codes "1 call DosFreeSeg 002F = 5" ∷ codes "1 call DosReallocSeg 0010 0027 = 5"
+        ∷ codes "1 call DosCreateCSAlias 0027 0017:0000 = 5" ∷ codes "1 call DosFreeSeg 0027 = 0" ∷ codes "1 drop 0027 by DosFreeSeg"
+        ∷ codes "1 drop 002F by DosFreeSeg" ∷ codes "1 call DosAllocSeg 0010 0017:0000 0000 = 0 0027"
+        ∷ codes "1 hold 0027 by DosAllocSeg" ∷ codes "1 call DosAllocSeg 0010 0017:0000 0000 = 0 002F"
+        ∷ codes "1 hold 002F by DosAllocSeg" ∷ []) }
     // Indexes that a run gives up stay reserved for it, and come back with it.
     ensures shrinks { told_by_two ((1, huges 1 1 3 0) ∷ (1, rehuges 1 0 0x24) ∷ (1, allocs 16 0) ∷ (1, rehuges 2 1 0x27) ∷ (1, rehuges 0 0 0x27) ∷ (1, rehuges 4 0 0x27) ∷ (1, rehuges 1 0 0x2f) ∷ (1, rehuges 1 0 0x17) ∷ [])
-        ≡ text_of (codes "1 call DosAllocHuge 0001 0001 0017:0034 0003 0000 = 0 0027" ∷ codes "1 hold 0027 by DosAllocHuge" ∷ codes "1 hold 002F by DosAllocHuge" ∷ codes "1 call DosReallocHuge 0001 0000 0024 = 0" ∷ codes "1 drop 002F by DosReallocHuge" ∷ codes "1 call DosAllocSeg 0010 0017:0000 0000 = 0 003F" ∷ codes "1 hold 003F by DosAllocSeg" ∷ codes "1 call DosReallocHuge 0002 0001 0027 = 0" ∷ codes "1 hold 002F by DosReallocHuge" ∷ codes "1 hold 0037 by DosReallocHuge" ∷ codes "1 call DosReallocHuge 0000 0000 0027 = 87" ∷ codes "1 call DosReallocHuge 0004 0000 0027 = 8" ∷ codes "1 call DosReallocHuge 0001 0000 002F = 5" ∷ codes "1 call DosReallocHuge 0001 0000 0017 = 5" ∷ []) }
+        ≡ text_of (codes "1 call DosAllocHuge 0001 0001 0017:0034 0003 0000 = 0 0027" ∷ codes "1 hold 0027 by DosAllocHuge"
+        ∷ codes "1 hold 002F by DosAllocHuge" ∷ codes "1 call DosReallocHuge 0001 0000 0024 = 0" ∷ codes "1 drop 002F by DosReallocHuge"
+        ∷ codes "1 call DosAllocSeg 0010 0017:0000 0000 = 0 003F" ∷ codes "1 hold 003F by DosAllocSeg"
+        ∷ codes "1 call DosReallocHuge 0002 0001 0027 = 0" ∷ codes "1 hold 002F by DosReallocHuge"
+        ∷ codes "1 hold 0037 by DosReallocHuge" ∷ codes "1 call DosReallocHuge 0000 0000 0027 = 87"
+        ∷ codes "1 call DosReallocHuge 0004 0000 0027 = 8" ∷ codes "1 call DosReallocHuge 0001 0000 002F = 5"
+        ∷ codes "1 call DosReallocHuge 0001 0000 0017 = 5" ∷ []) }
     // Each holder has the new members as often as the first one, and a shared run loses no byte.
     ensures shares { told_by_two ((1, huges 1 0 2 3) ∷ (1, gives 0x8007 2) ∷ (2, gets 0x8007) ∷ (1, rehuges 1 1 0x8007) ∷ (2, rehuges 1 0 0x8007) ∷ (2, rehuges 2 0 0x8007) ∷ (2, gets 0x800f) ∷ (2, gives 0x800f 1) ∷ [])
-        ≡ text_of (codes "1 call DosAllocHuge 0001 0000 0017:0034 0002 0003 = 0 8007" ∷ codes "1 hold 8007 by DosAllocHuge" ∷ codes "1 call DosGiveSeg 8007 0002 0017:0034 = 0 8007" ∷ codes "2 hold 8007 by DosGiveSeg" ∷ codes "2 call DosGetSeg 8007 = 0" ∷ codes "2 hold 8007 by DosGetSeg" ∷ codes "1 call DosReallocHuge 0001 0001 8007 = 0" ∷ codes "1 hold 800F by DosReallocHuge" ∷ codes "2 hold 800F by DosReallocHuge" ∷ codes "2 hold 800F by DosReallocHuge" ∷ codes "2 call DosReallocHuge 0001 0000 8007 = 5" ∷ codes "2 call DosReallocHuge 0002 0000 8007 = 0" ∷ codes "2 call DosGetSeg 800F = 5" ∷ codes "2 call DosGiveSeg 800F 0001 0017:0034 = 5" ∷ []) }
+        ≡ text_of (codes "1 call DosAllocHuge 0001 0000 0017:0034 0002 0003 = 0 8007" ∷ codes "1 hold 8007 by DosAllocHuge"
+        ∷ codes "1 call DosGiveSeg 8007 0002 0017:0034 = 0 8007" ∷ codes "2 hold 8007 by DosGiveSeg" ∷ codes "2 call DosGetSeg 8007 = 0"
+        ∷ codes "2 hold 8007 by DosGetSeg" ∷ codes "1 call DosReallocHuge 0001 0001 8007 = 0" ∷ codes "1 hold 800F by DosReallocHuge"
+        ∷ codes "2 hold 800F by DosReallocHuge" ∷ codes "2 hold 800F by DosReallocHuge"
+        ∷ codes "2 call DosReallocHuge 0001 0000 8007 = 5" ∷ codes "2 call DosReallocHuge 0002 0000 8007 = 0"
+        ∷ codes "2 call DosGetSeg 800F = 5" ∷ codes "2 call DosGiveSeg 800F 0001 0017:0034 = 5" ∷ []) }
     // A run is given as a whole.
     ensures whole { told_by_two ((1, huges 1 1 0 1) ∷ (1, gives 0x8007 2) ∷ [])
-        ≡ text_of (codes "1 call DosAllocHuge 0001 0001 0017:0034 0000 0001 = 0 8007" ∷ codes "1 hold 8007 by DosAllocHuge" ∷ codes "1 hold 800F by DosAllocHuge" ∷ codes "1 call DosGiveSeg 8007 0002 0017:0034 = 0 8007" ∷ codes "2 hold 8007 by DosGiveSeg" ∷ codes "2 hold 800F by DosGiveSeg" ∷ []) }
+        ≡ text_of (codes "1 call DosAllocHuge 0001 0001 0017:0034 0000 0001 = 0 8007" ∷ codes "1 hold 8007 by DosAllocHuge"
+        ∷ codes "1 hold 800F by DosAllocHuge" ∷ codes "1 call DosGiveSeg 8007 0002 0017:0034 = 0 8007"
+        ∷ codes "2 hold 8007 by DosGiveSeg" ∷ codes "2 hold 800F by DosGiveSeg" ∷ []) }
     ensures reserves { reserves_behind two_sharers ((1, huges 1 1 3 0) ∷ (1, huges 1 0 2 1) ∷ []) ≡ (0, 4096, 2) ∷ (1, 4, 3) ∷ [] }
     ensures still_reserved { reserves_behind two_sharers ((1, huges 1 1 3 0) ∷ (1, rehuges 1 0 0x27) ∷ []) ≡ (1, 4, 3) ∷ [] }
     ensures unreserved { reserves_behind two_sharers ((1, huges 1 1 3 0) ∷ (1, frees 0x27) ∷ []) ≡ [] }

@@ -67,7 +67,10 @@ pub returns-in-Done-clause-texts : goal.returns-in-Done-clause-texts
 returns-in-Done-clause-texts g c = λ tells text may.
     let s = c.args.session in
     let begun = c.in-Ok-begun.ensures.begins in
-    bench_done s (g.S.SwapDevice.blocks c.args.swap.now) _ _ _ _ (Rose (g.R.Sink.faults c.begun.new.report) (g.R.Sink.faults c.run_unseen.new.report)) _ _ _ (put_of c.run_unseen.new.machine.last) (λ (t : Setting). StandsFor c.run_unseen.new.machine (g.S.SwapDevice.blocks c.run_unseen.new.swap) (g.S.SwapDevice.block c.run_unseen.new.swap) t)
+    bench_done s (g.S.SwapDevice.blocks c.args.swap.now) _ _ _ _
+    (Rose (g.R.Sink.faults c.begun.new.report) (g.R.Sink.faults c.run_unseen.new.report)) _ _ _ (put_of c.run_unseen.new.machine.last)
+    (λ (t : Setting). StandsFor c.run_unseen.new.machine (g.S.SwapDevice.blocks c.run_unseen.new.swap)
+    (g.S.SwapDevice.block c.run_unseen.new.swap) t)
     (Unit {0}) c.args.count _ _ _ _ c.put_line.ensures.puts (λ input left.
     let w = first_world s.linked s.conf input begun.built in
     record {
@@ -83,7 +86,10 @@ pub returns-clause-texts : goal.returns-clause-texts
 returns-clause-texts g c = λ tells text may.
     let s = c.args.session in
     let begun = c.in-Ok-begun.ensures.begins in
-    bench_cut s (g.S.SwapDevice.blocks c.args.swap.now) _ _ _ _ (Rose (g.R.Sink.faults c.begun.new.report) (g.R.Sink.faults c.run_unseen.new.report)) _ _ _ (put_of c.run_unseen.new.machine.last) (λ (t : Setting). StandsFor c.run_unseen.new.machine (g.S.SwapDevice.blocks c.run_unseen.new.swap) (g.S.SwapDevice.block c.run_unseen.new.swap) t)
+    bench_cut s (g.S.SwapDevice.blocks c.args.swap.now) _ _ _ _
+    (Rose (g.R.Sink.faults c.begun.new.report) (g.R.Sink.faults c.run_unseen.new.report)) _ _ _ (put_of c.run_unseen.new.machine.last)
+    (λ (t : Setting). StandsFor c.run_unseen.new.machine (g.S.SwapDevice.blocks c.run_unseen.new.swap)
+    (g.S.SwapDevice.block c.run_unseen.new.swap) t)
     (Unit {0}) c.args.count _ _ _ _ c.put_line.ensures.puts (λ input left.
     let w = first_world s.linked s.conf input begun.built in
     record {

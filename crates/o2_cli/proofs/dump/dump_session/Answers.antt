@@ -36,7 +36,9 @@ returns-then-is_dumped-clause-texts g c = λ tells text may.
     (StandsFor c.run_unseen-ended.new.machine (g.S.SwapDevice.blocks c.run_unseen-ended.new.swap) (g.S.SwapDevice.block c.run_unseen-ended.new.swap) (setting_of s.conf))
     c.run_unseen-ended.result c.put_image-wrote.result c.status_of_run-whole.result _ c.status_of_run-whole.ensures c.status_of_image.ensures (ap (is_dumped c.run_unseen-ended.result) (sym c.line_put.ensures) ∙ sym c.is_dumped.ensures ∙ c.if-is_dumped.true) (λ v st.
     subst (λ (n : ℕ). GainsByWrote (picture s.linked.images) n (setting_of s.conf) v (g.C.Sink.taken c.args.console.now) (g.C.Sink.taken c.put_image-wrote.new.console) c.put_image-wrote.result) same
-    (subst (λ (l : ImageList). GainsByWrote (picture l) (g.S.SwapDevice.blocks c.run_unseen-ended.new.swap) (setting_of s.conf) v (g.C.Sink.taken c.args.console.now) (g.C.Sink.taken c.put_image-wrote.new.console) c.put_image-wrote.result) (c.run_unseen-ended.ensures.images ∙ begun.images)
+    (subst (λ (l : ImageList). GainsByWrote (picture l) (g.S.SwapDevice.blocks c.run_unseen-ended.new.swap) (setting_of s.conf) v
+    (g.C.Sink.taken c.args.console.now) (g.C.Sink.taken c.put_image-wrote.new.console) c.put_image-wrote.result)
+    (c.run_unseen-ended.ensures.images ∙ begun.images)
     (c.put_image-wrote.ensures.text tells (setting_of s.conf) v (c.min-blocks.ensures ∙ ap (min s.conf.swap) (c.count-device.ensures ∙ sym same)) st))) (λ input left.
     c.run_unseen-ended.ensures.texts (ap stopped_of begun.fresh) (c.put_image-wrote.ensures.read.earlier tells) text may (setting_of s.conf) (first_world s.linked s.conf input begun.built) _ (stands_over _ _ _ _ _ _ begun _ c.count-device.ensures _ input) left refl begun.to_report)
 
@@ -82,13 +84,18 @@ pub returns-clause-refused : goal.returns-clause-refused
 returns-clause-refused g c = run_refusal c.run_unseen-ended.result c.status_of_run-whole.result c.status_of_run-whole.ensures c.args.session
 
 pub returns-then-is_dumped-clause-input_fault : goal.returns-then-is_dumped-clause-input_fault
-returns-then-is_dumped-clause-input_fault g c = image_input c.put_image-wrote.result c.status_of_run-whole.result _ c.status_of_image.ensures _ (run_input c.run_unseen-ended.result c.status_of_run-whole.result c.status_of_run-whole.ensures _ _ _ (c.run_unseen-ended.ensures.cause (ap stopped_of c.in-Ok-begun.ensures.begins.fresh)))
+returns-then-is_dumped-clause-input_fault g c = image_input c.put_image-wrote.result c.status_of_run-whole.result _
+    c.status_of_image.ensures _ (run_input c.run_unseen-ended.result c.status_of_run-whole.result c.status_of_run-whole.ensures _ _ _
+    (c.run_unseen-ended.ensures.cause (ap stopped_of c.in-Ok-begun.ensures.begins.fresh)))
 
 pub returns-clause-input_fault : goal.returns-clause-input_fault
 returns-clause-input_fault g c = run_input c.run_unseen-ended.result c.status_of_run-whole.result c.status_of_run-whole.ensures _ _ _ (c.run_unseen-ended.ensures.cause (ap stopped_of c.in-Ok-begun.ensures.begins.fresh))
 
 pub returns-then-is_dumped-clause-sink_fault : goal.returns-then-is_dumped-clause-sink_fault
-returns-then-is_dumped-clause-sink_fault g c = image_sink c.put_image-wrote.result c.status_of_run-whole.result _ c.status_of_image.ensures _ _ _ _ c.put_image-wrote.ensures.causes _ (run_sink c.run_unseen-ended.result c.status_of_run-whole.result c.status_of_run-whole.ensures _ _ _ (c.run_unseen-ended.ensures.cause (ap stopped_of c.in-Ok-begun.ensures.begins.fresh)) _ (λ rose. inr (rose_since _ _ _ c.in-Ok-begun.ensures.count rose)))
+returns-then-is_dumped-clause-sink_fault g c = image_sink c.put_image-wrote.result c.status_of_run-whole.result _ c.status_of_image.ensures
+    _ _ _ _ c.put_image-wrote.ensures.causes _ (run_sink c.run_unseen-ended.result c.status_of_run-whole.result
+    c.status_of_run-whole.ensures _ _ _ (c.run_unseen-ended.ensures.cause (ap stopped_of c.in-Ok-begun.ensures.begins.fresh)) _
+    (λ rose. inr (rose_since _ _ _ c.in-Ok-begun.ensures.count rose)))
 
 pub returns-clause-sink_fault : goal.returns-clause-sink_fault
 returns-clause-sink_fault g c = run_sink c.run_unseen-ended.result c.status_of_run-whole.result c.status_of_run-whole.ensures _ _ _ (c.run_unseen-ended.ensures.cause (ap stopped_of c.in-Ok-begun.ensures.begins.fresh)) _ (λ rose. inr (rose_since _ _ _ c.in-Ok-begun.ensures.count rose))
@@ -108,7 +115,9 @@ pub returns-then-is_dumped-clause-idle : goal.returns-then-is_dumped-clause-idle
 returns-then-is_dumped-clause-idle g c = λ tells text may input left fits.
     let s = c.args.session in
     let begun = c.in-Ok-begun.ensures.begins in
-    let still = (c.run_unseen-ended.ensures.idle (ap stopped_of begun.fresh) tells text may (setting_of s.conf) (first_world s.linked s.conf input begun.built) (stands_over _ _ _ _ _ _ begun _ c.count-device.ensures _ input) left begun.unused (fits_from s input begun.built begun.starts fits)) in
+    let still = (c.run_unseen-ended.ensures.idle (ap stopped_of begun.fresh) tells text may (setting_of s.conf)
+    (first_world s.linked s.conf input begun.built) (stands_over _ _ _ _ _ _ begun _ c.count-device.ensures _ input) left
+    begun.unused (fits_from s input begun.built begun.starts fits)) in
     c.put_image-wrote.ensures.idle still.1 ∙ still.0
 
 pub returns-clause-idle : goal.returns-clause-idle

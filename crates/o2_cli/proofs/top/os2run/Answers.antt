@@ -199,7 +199,12 @@ returns-in-Err-clause-ample g c = λ tells text may runs contents seen is left o
 
 pub returns-in-Check-clause-ample : goal.returns-in-Check-clause-ample
 returns-in-Check-clause-ample g c = λ tells text may runs contents seen is left o.
-    absurd (runs (c.in-Ok-from_slice.name, subst (λ (v : Verb). IsCommandFor c.args.words.now v c.in-Ok-from_slice.name) c.in-Check.is (subst (λ name. IsCommandFor c.args.words.now c.in-Ok.command.verb name) (sym (c.in-Ok-from_slice.ensures ∙ c.as_bytes.ensures.value)) c.in-Ok.ensures.exact)))
+    absurd (runs (
+      c.in-Ok-from_slice.name,
+      subst (λ (v : Verb). IsCommandFor c.args.words.now v c.in-Ok-from_slice.name) c.in-Check.is
+          (subst (λ name. IsCommandFor c.args.words.now c.in-Ok.command.verb name)
+          (sym (c.in-Ok-from_slice.ensures ∙ c.as_bytes.ensures.value)) c.in-Ok.ensures.exact),
+    ))
 
 pub returns-clause-ample : goal.returns-clause-ample
 returns-clause-ample g c = λ tells text may runs contents seen is left o.

@@ -10,7 +10,11 @@ returns-clause-same_reference c = (framed c.args.bus.now.plain.ghost_name c.step
 pub returns-clause-step : goal.returns-clause-step
 returns-clause-step c =
     let agrees = agrees_at c.args.bus.now.plain.ghost_name c.args.bus.now.plain.now c.args.bus.now.pid c.args.bus.now.holds c.args.cpu.now c.requires.agrees in
-    plain_answers c.step_one.result c.args.bus.now.plain.ghost_name c.step_one.new.bus.plain.ghost_name c.args.bus.now.plain.now c.step_one.new.bus.plain.now c.args.bus.now.pid c.step_one.new.bus.pid c.args.bus.now.holds c.step_one.new.bus.holds c.args.cpu.now c.step_one.new.cpu (framed c.args.bus.now.plain.ghost_name c.step_one.new.bus.plain.ghost_name c.args.bus.now.plain.now c.step_one.new.bus.plain.now c.args.bus.now.pid c.step_one.new.bus.pid c.args.bus.now.holds c.step_one.new.bus.holds c.step_one.ensures.frame) agrees (c.step_one.ensures.agrees agrees) c.step_one.ensures.step
+    plain_answers c.step_one.result c.args.bus.now.plain.ghost_name c.step_one.new.bus.plain.ghost_name c.args.bus.now.plain.now
+    c.step_one.new.bus.plain.now c.args.bus.now.pid c.step_one.new.bus.pid c.args.bus.now.holds c.step_one.new.bus.holds c.args.cpu.now
+    c.step_one.new.cpu (framed c.args.bus.now.plain.ghost_name c.step_one.new.bus.plain.ghost_name c.args.bus.now.plain.now
+    c.step_one.new.bus.plain.now c.args.bus.now.pid c.step_one.new.bus.pid c.args.bus.now.holds c.step_one.new.bus.holds
+    c.step_one.ensures.frame) agrees (c.step_one.ensures.agrees agrees) c.step_one.ensures.step
 
 pub returns-clause-frame : goal.returns-clause-frame
 returns-clause-frame c =
@@ -25,4 +29,11 @@ returns-clause-frame c =
 pub returns-clause-never_missed : goal.returns-clause-never_missed
 returns-clause-never_missed c = λ all.
     let agrees = agrees_at c.args.bus.now.plain.ghost_name c.args.bus.now.plain.now c.args.bus.now.pid c.args.bus.now.holds c.args.cpu.now c.requires.agrees in
-    never_missed c.step_one.result (state c.step_one.new.cpu (plain_view c.step_one.new.bus.plain.now c.args.bus.now.pid c.step_one.new.cpu)) (state c.args.cpu.now (plain_view c.args.bus.now.plain.now c.args.bus.now.pid c.args.cpu.now)) (plain_answers c.step_one.result c.args.bus.now.plain.ghost_name c.step_one.new.bus.plain.ghost_name c.args.bus.now.plain.now c.step_one.new.bus.plain.now c.args.bus.now.pid c.step_one.new.bus.pid c.args.bus.now.holds c.step_one.new.bus.holds c.args.cpu.now c.step_one.new.cpu (framed c.args.bus.now.plain.ghost_name c.step_one.new.bus.plain.ghost_name c.args.bus.now.plain.now c.step_one.new.bus.plain.now c.args.bus.now.pid c.step_one.new.bus.pid c.args.bus.now.holds c.step_one.new.bus.holds c.step_one.ensures.frame) agrees (c.step_one.ensures.agrees agrees) c.step_one.ensures.step) all
+    never_missed c.step_one.result (state c.step_one.new.cpu
+    (plain_view c.step_one.new.bus.plain.now c.args.bus.now.pid c.step_one.new.cpu))
+    (state c.args.cpu.now (plain_view c.args.bus.now.plain.now c.args.bus.now.pid c.args.cpu.now))
+    (plain_answers c.step_one.result c.args.bus.now.plain.ghost_name c.step_one.new.bus.plain.ghost_name c.args.bus.now.plain.now
+    c.step_one.new.bus.plain.now c.args.bus.now.pid c.step_one.new.bus.pid c.args.bus.now.holds c.step_one.new.bus.holds c.args.cpu.now
+    c.step_one.new.cpu (framed c.args.bus.now.plain.ghost_name c.step_one.new.bus.plain.ghost_name c.args.bus.now.plain.now
+    c.step_one.new.bus.plain.now c.args.bus.now.pid c.step_one.new.bus.pid c.args.bus.now.holds c.step_one.new.bus.holds
+    c.step_one.ensures.frame) agrees (c.step_one.ensures.agrees agrees) c.step_one.ensures.step) all

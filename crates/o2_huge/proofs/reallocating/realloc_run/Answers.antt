@@ -5,7 +5,9 @@ use Rattle.o2_world.specs.Changes.{takes}
 use Rattle.o2_world.specs.Rulings.{Ruling, grants}
 use Rattle.o2_huge.specs.declared.members.Run.{Run}
 use Rattle.o2_huge.specs.Growth.{is_of_run}
-use Rattle.o2_huge.proofs.Asking.{answers_as, asked_run, changes_as, dropped_all, enough_there, fault_known, first_changes, fixed_there, full_known, good_known, grants_answer, grants_changes, held_first, inside_there, room_there, run_some, short_there, small_index, some_there, some_wanted, wanted_vacant, without_done}
+use Rattle.o2_huge.proofs.Asking.{answers_as, asked_run, changes_as, dropped_all, enough_there, fault_known, first_changes, fixed_there, full_known, good_known}
+use Rattle.o2_huge.proofs.Asking.{grants_answer, grants_changes, held_first, inside_there, room_there, run_some, short_there, small_index, some_there, some_wanted}
+use Rattle.o2_huge.proofs.Asking.{wanted_vacant, without_done}
 use Rattle.o2_huge.proofs.Following.{never_stops, refused_row, refused_run, stops_as}
 use Rattle.o2_huge.proofs.reallocating.realloc_run.Goals as goal
 

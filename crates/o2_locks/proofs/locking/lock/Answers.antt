@@ -63,7 +63,11 @@ pub returns-in-None-stop_of-clause-matches : goal.returns-in-None-stop_of-clause
 returns-in-None-stop_of-clause-matches g c = λ m p w is es em ei eb tells q.
     (let s = c.args.store.now in
     let at = attr_there (entry_of s c.args.id) c.in-Some.attr (sym c.in-Some.ensures) c.args.id.age (slot_at s.entries c.args.id.key) refl in
-    locked_matches p w c.set_lock-in-None-stop_of.new.store c.bring_in.new.regions (g.S.SwapDevice.block c.bring_in.new.swap) c.args.id (min ((entry s c.args.id.key).attr.lock + 1) 255) c.saturating_add-in-None-stop_of.result (locking_with c.args.id.age (Some m)) (lock_done c.args.id.age (entry s c.args.id.key).attr m is (ap (λ (a : Attr). has_bit a.flags 2) (sym at) ∙ sym c.if-not-is_discardable.ensures)) (c.saturating_add-in-None-stop_of.ensures ∙ ap (λ (a : Attr). min (a.lock + 1) 255) at)
+    locked_matches p w c.set_lock-in-None-stop_of.new.store c.bring_in.new.regions (g.S.SwapDevice.block c.bring_in.new.swap) c.args.id
+    (min ((entry s c.args.id.key).attr.lock + 1) 255) c.saturating_add-in-None-stop_of.result (locking_with c.args.id.age (Some m))
+    (lock_done c.args.id.age (entry s c.args.id.key).attr m is
+    (ap (λ (a : Attr). has_bit a.flags 2) (sym at) ∙ sym c.if-not-is_discardable.ensures))
+    (c.saturating_add-in-None-stop_of.ensures ∙ ap (λ (a : Attr). min (a.lock + 1) 255) at)
     (c.set_lock-in-None-stop_of.ensures.matches.world (moved p c.bring_in.new.store c.bring_in.new.regions (g.S.SwapDevice.block c.bring_in.new.swap)) w refl refl (c.bring_in.ensures.matches.world p w es em ei eb tells q)))
 
 pub returns-in-Some-stop_of-clause-stops : goal.returns-in-Some-stop_of-clause-stops
@@ -88,7 +92,11 @@ pub returns-then-attr-gt0-clause-matches : goal.returns-then-attr-gt0-clause-mat
 returns-then-attr-gt0-clause-matches g c = λ m p w is es em ei eb tells q.
     (let s = c.args.store.now in
     let at = attr_there (entry_of s c.args.id) c.in-Some.attr (sym c.in-Some.ensures) c.args.id.age (slot_at s.entries c.args.id.key) refl in
-    locked_matches p w c.set_lock.new.store c.args.regions.now (g.S.SwapDevice.block c.args.swap.now) c.args.id (min ((entry s c.args.id.key).attr.lock + 1) 255) c.saturating_add.result (locking_with c.args.id.age (Some m)) (lock_done c.args.id.age (entry s c.args.id.key).attr m is (ap (λ (a : Attr). has_bit a.flags 2) (sym at) ∙ sym c.if-not-is_discardable.ensures)) (c.saturating_add.ensures ∙ ap (λ (a : Attr). min (a.lock + 1) 255) at)
+    locked_matches p w c.set_lock.new.store c.args.regions.now (g.S.SwapDevice.block c.args.swap.now) c.args.id
+    (min ((entry s c.args.id.key).attr.lock + 1) 255) c.saturating_add.result (locking_with c.args.id.age (Some m))
+    (lock_done c.args.id.age (entry s c.args.id.key).attr m is
+    (ap (λ (a : Attr). has_bit a.flags 2) (sym at) ∙ sym c.if-not-is_discardable.ensures))
+    (c.saturating_add.ensures ∙ ap (λ (a : Attr). min (a.lock + 1) 255) at)
     (moved_made p (with_change w (Locks c.args.id.age c.saturating_add.result)) c.set_lock.new.store c.args.regions.now (g.S.SwapDevice.block c.args.swap.now) em eb (c.set_lock.ensures.matches.world p w es em q)))
 
 pub returns-in-None-stop_of-clause-kept : goal.returns-in-None-stop_of-clause-kept
@@ -111,7 +119,9 @@ returns-in-Some-stop_of-clause-limits g c = limits_moved c.args.store.now c.brin
 
 pub returns-in-None-stop_of-clause-limits : goal.returns-in-None-stop_of-clause-limits
 returns-in-None-stop_of-clause-limits g c =
-    limits_then c.args.store.now c.bring_in.new.store c.set_lock-in-None-stop_of.new.store c.args.regions.now c.bring_in.new.regions c.bring_in.new.regions 0 0 (limits_moved c.args.store.now c.bring_in.new.store c.args.regions.now c.bring_in.new.regions c.bring_in.ensures.keeps.tables c.bring_in.ensures.maps)
+    limits_then c.args.store.now c.bring_in.new.store c.set_lock-in-None-stop_of.new.store c.args.regions.now c.bring_in.new.regions
+    c.bring_in.new.regions 0 0 (limits_moved c.args.store.now c.bring_in.new.store c.args.regions.now c.bring_in.new.regions
+    c.bring_in.ensures.keeps.tables c.bring_in.ensures.maps)
     (limits_locked c.bring_in.new.store c.set_lock-in-None-stop_of.new.store c.bring_in.new.regions c.args.id _ (alive_tables c.args.store.now c.bring_in.new.store c.bring_in.ensures.keeps.tables c.args.id c.requires.live) c.set_lock-in-None-stop_of.ensures.sets)
 
 pub returns-in-None-clause-limits : goal.returns-in-None-clause-limits

@@ -25,7 +25,10 @@ returns-in-Some-clause-answer g c = λ p o es em.
 pub returns-in-Some-clause-matches : goal.returns-in-Some-clause-matches
 returns-in-Some-clause-matches g c = λ p o w es em ei eb tells q.
     (let id = c.in-Some.held.id in
-    subst (λ (r : Ruling). Matches (moved p c.lock.new.store c.lock.new.regions (g.S.SwapDevice.block c.lock.new.swap)) (with_all w (changes_roomed r c.lock.result))) (sym (lock_some p o c.args.pid c.args.sel c.in-Some.held (named_in p c.args.store.now c.args.regions.now es em c.requires.caller.named) (at_maps p c.args.regions.now c.args.pid c.args.sel _ em (sym c.in-Some.ensures))))
+    subst (λ (r : Ruling). Matches (moved p c.lock.new.store c.lock.new.regions (g.S.SwapDevice.block c.lock.new.swap))
+    (with_all w (changes_roomed r c.lock.result))) (sym
+    (lock_some p o c.args.pid c.args.sel c.in-Some.held (named_in p c.args.store.now c.args.regions.now es em c.requires.caller.named)
+    (at_maps p c.args.regions.now c.args.pid c.args.sel _ em (sym c.in-Some.ensures))))
     (c.lock.ensures.matches (marks_under p o id.age id.key) p w (marked p o c.args.store.now id.age id.key es) es em ei eb tells q))
 
 pub returns-in-None-clause-answer : goal.returns-in-None-clause-answer

@@ -27,7 +27,10 @@ pub returns-then-attr-eq0-clause-answer : goal.returns-then-attr-eq0-clause-answ
 returns-then-attr-eq0-clause-answer c = λ m is.
     (let s = c.args.store.now in
     let at = attr_there (entry_of s c.args.id) c.in-Some.attr (sym c.in-Some.ensures) c.args.id.age (slot_at s.entries c.args.id.key) refl in
-    refusal_answers _ 158 c.refusal-then-attr-eq0.result (unlock_open c.args.id.age (entry s c.args.id.key).attr m is (ap (λ (a : Attr). has_bit a.flags 2) (sym at) ∙ sym c.if-not-is_discardable.ensures) (ap (λ (a : Attr). a.lock) (sym at) ∙ c.if-attr-eq0.true)) c.refusal-then-attr-eq0.ensures)
+    refusal_answers _ 158 c.refusal-then-attr-eq0.result
+    (unlock_open c.args.id.age (entry s c.args.id.key).attr m is
+    (ap (λ (a : Attr). has_bit a.flags 2) (sym at) ∙ sym c.if-not-is_discardable.ensures)
+    (ap (λ (a : Attr). a.lock) (sym at) ∙ c.if-attr-eq0.true)) c.refusal-then-attr-eq0.ensures)
 
 pub returns-then-attr-eq0-clause-matches : goal.returns-then-attr-eq0-clause-matches
 returns-then-attr-eq0-clause-matches c = λ m p w is es em q.

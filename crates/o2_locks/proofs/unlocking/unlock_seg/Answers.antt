@@ -20,7 +20,10 @@ returns-in-Some-clause-answer c = λ p o es em.
 pub returns-in-Some-clause-matches : goal.returns-in-Some-clause-matches
 returns-in-Some-clause-matches c = λ p o w es em q.
     (let id = c.in-Some.held.id in
-    subst (λ (r : Ruling). Matches (record p { shelf = c.unlock.new.store }) (with_all w r.changes)) (sym (unlock_some p o c.args.pid c.args.sel c.in-Some.held (named_in p c.args.store.now c.args.regions.now es em c.requires.caller.named) (at_maps p c.args.regions.now c.args.pid c.args.sel _ em (sym c.in-Some.ensures))))
+    subst (λ (r : Ruling). Matches (record p { shelf = c.unlock.new.store }) (with_all w r.changes))
+    (sym (unlock_some p o c.args.pid c.args.sel c.in-Some.held
+    (named_in p c.args.store.now c.args.regions.now es em c.requires.caller.named)
+    (at_maps p c.args.regions.now c.args.pid c.args.sel _ em (sym c.in-Some.ensures))))
     (c.unlock.ensures.matches (marks_under p o id.age id.key) p w (marked p o c.args.store.now id.age id.key es) es em q))
 
 pub returns-in-None-clause-answer : goal.returns-in-None-clause-answer

@@ -8,6 +8,9 @@ pub loop-name-preserved : goal.loop-name-preserved
 loop-name-preserved g c = record {
   earlier = λ contents h. c.loop-name.invariant.earlier contents (c.in_ok-one.ensures.earlier contents h);
   count = omega (arith, c.loop-name.invariant.count, c.in_ok-one.ensures.count);
-  so_far = λ contents h. one_more contents c.args.names.now c.loop-name.name-index c.name-item.result c.in_ok-one.one c.loop-name.modules.items c.add.new.modules.items _ c.loop-name-test.true (subst (λ (z : List ℕ). module_in contents z ≡ Ok c.in_ok-one.one) c.name-item.is (c.in_ok-one.ensures.exact contents h)) c.in_ok-add.ensures.added (c.loop-name.invariant.so_far contents (c.in_ok-one.ensures.earlier contents h));
+  so_far = λ contents h. one_more contents c.args.names.now c.loop-name.name-index c.name-item.result c.in_ok-one.one
+      c.loop-name.modules.items c.add.new.modules.items _ c.loop-name-test.true
+      (subst (λ (z : List ℕ). module_in contents z ≡ Ok c.in_ok-one.one) c.name-item.is (c.in_ok-one.ensures.exact contents h))
+      c.in_ok-add.ensures.added (c.loop-name.invariant.so_far contents (c.in_ok-one.ensures.earlier contents h));
   many = ap length c.in_ok-add.ensures.added ∙ length-append c.loop-name.modules.items _ ∙ ap (λ n. n + 1) c.loop-name.invariant.many;
 }

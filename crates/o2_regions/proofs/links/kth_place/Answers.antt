@@ -13,6 +13,8 @@ loop-at-smaller c = up_smaller c.args.held.now c.args.next.now c.args.id c.args.
 pub loop-at-preserved : goal.loop-at-preserved
 loop-at-preserved c =
     elim c.if-is_held_as.branch [
-      | then-is_held_as+else-left-eq0 w ↦ rw w.left-is (up_one c.args.held.now c.args.next.now c.args.id c.args.k c.loop-at.left (c.loop-at.left - 1) c.loop-at.at _ c.requires.next c.loop-at.invariant c.loop-at-test.true (sym c.is_held_as.ensures ∙ w.if-is_held_as.true) (omega arith) refl)
+      | then-is_held_as+else-left-eq0 w ↦ rw w.left-is (up_one c.args.held.now c.args.next.now c.args.id c.args.k c.loop-at.left
+          (c.loop-at.left - 1) c.loop-at.at _ c.requires.next c.loop-at.invariant c.loop-at-test.true
+          (sym c.is_held_as.ensures ∙ w.if-is_held_as.true) (omega arith) refl)
       | else-is_held_as w ↦ rw w.left-is (up_other c.args.held.now c.args.next.now c.args.id c.args.k c.loop-at.left c.loop-at.at _ c.requires.next c.loop-at.invariant c.loop-at-test.true (sym c.is_held_as.ensures ∙ w.if-is_held_as.false) refl)
     ]

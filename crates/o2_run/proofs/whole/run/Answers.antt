@@ -45,7 +45,9 @@ steps-preserved g c =
       reached = λ n tells text may s w a b stands input to_console to_report.
           let before = c.steps.invariant.reached n (c.turn.ensures.swap_told tells) text (seen_before text _ _ c.turn.ensures.goes_on may) s w a b stands input to_console to_report in
           let h = sliced _ s w _ _ _ _ _ _ _ _ c.slice-done.result before (c.slice-done.ensures.steps _ _ s _ before.stands) in
-          ran_by _ _ _ (g.S.SwapDevice.blocks c.steps.swap) s w _ _ _ _ _ _ _ _ _ _ _ _ _ _ (length w.lines) c.turn.result is _ h _ (c.turn.ensures.turns (c.slice-done.ensures.stops ∙ c.steps.invariant.fresh n) tells text may s _ h.stands h.input) (c.turn.ensures.puts (c.slice-done.ensures.stops ∙ c.steps.invariant.fresh n) tells text may s _ h.stands h.input);
+          ran_by _ _ _ (g.S.SwapDevice.blocks c.steps.swap) s w _ _ _ _ _ _ _ _ _ _ _ _ _ _ (length w.lines) c.turn.result is _ h _
+          (c.turn.ensures.turns (c.slice-done.ensures.stops ∙ c.steps.invariant.fresh n) tells text may s _ h.stands h.input)
+          (c.turn.ensures.puts (c.slice-done.ensures.stops ∙ c.steps.invariant.fresh n) tells text may s _ h.stands h.input);
       input_count = omega (arith, c.steps.invariant.input_count, c.turn.ensures.input_count);
       console_count = omega (arith, c.steps.invariant.console_count, c.turn.ensures.console_count);
       report_count = omega (arith, c.steps.invariant.report_count, c.turn.ensures.report_count);

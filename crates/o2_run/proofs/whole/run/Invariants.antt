@@ -12,7 +12,9 @@ abbrev pub invariant-steps : goal.invariant-steps
 invariant-steps g l = record {
   fresh : g.M.Steps.stopped l.fn.machine ≡ None → g.M.Steps.stopped l.machine ≡ None;
   goes_on : GoesOn (g.I.Source.past l.fn.input) (g.I.Source.past l.input);
-  reached : g.M.Steps.stopped l.fn.machine ≡ None → IsTrue (g.S.SwapDevice.told l.swap) → (text : Option (List ℕ)) → IsSeenAs text (g.I.Source.past l.input) → (s : Setting) (w : World) (c r : Option (List ℕ)) → g.M.Steps.stands l.fn.machine (g.S.SwapDevice.blocks l.fn.swap) (g.S.SwapDevice.block l.fn.swap) s w
+  reached : g.M.Steps.stopped l.fn.machine ≡ None → IsTrue (g.S.SwapDevice.told l.swap) → (text : Option (List ℕ))
+      → IsSeenAs text (g.I.Source.past l.input) → (s : Setting) (w : World) (c r : Option (List ℕ))
+      → g.M.Steps.stands l.fn.machine (g.S.SwapDevice.blocks l.fn.swap) (g.S.SwapDevice.block l.fn.swap) s w
       → left_as text (g.I.Source.left l.fn.input) (g.I.Source.past l.fn.input) ≡ Some w.input
       → Gains c (g.C.Sink.taken l.fn.console) (console w) → Gains r (g.R.Sink.taken l.fn.report) (lines_text w.lines)
       → HasReached (g.M.Steps.stands l.machine (g.S.SwapDevice.blocks l.swap) (g.S.SwapDevice.block l.swap) s) g.M.Steps.swaps s w (left_as text (g.I.Source.left l.input) (g.I.Source.past l.input)) c (g.C.Sink.taken l.console) r (g.R.Sink.taken l.report)
@@ -26,7 +28,9 @@ invariant-steps g l = record {
   fixed : g.M.Steps.fixed l.machine ≡ g.M.Steps.fixed l.fn.machine;
   swap_told : IsTrue (g.S.SwapDevice.told l.swap) → IsTrue (g.S.SwapDevice.told l.fn.swap);
   unswapped : g.M.Steps.swaps ≡ false → l.swap ≡ l.fn.swap;
-  idle : g.M.Steps.stopped l.fn.machine ≡ None → IsTrue (g.S.SwapDevice.told l.fn.swap) → (text : Option (List ℕ)) → IsSeenAs text (g.I.Source.past l.input) → (s : Setting) (w : World) → g.M.Steps.stands l.fn.machine (g.S.SwapDevice.blocks l.fn.swap) (g.S.SwapDevice.block l.fn.swap) s w
+  idle : g.M.Steps.stopped l.fn.machine ≡ None → IsTrue (g.S.SwapDevice.told l.fn.swap) → (text : Option (List ℕ))
+      → IsSeenAs text (g.I.Source.past l.input) → (s : Setting) (w : World)
+      → g.M.Steps.stands l.fn.machine (g.S.SwapDevice.blocks l.fn.swap) (g.S.SwapDevice.block l.fn.swap) s w
       → left_as text (g.I.Source.left l.fn.input) (g.I.Source.past l.fn.input) ≡ Some w.input → g.M.Steps.none_swapped l.fn.machine
       → AllFitRun s w → (l.swap ≡ l.fn.swap) × g.M.Steps.none_swapped l.machine;
 }

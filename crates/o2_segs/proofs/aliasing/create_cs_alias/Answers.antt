@@ -7,11 +7,15 @@ use Rattle.o2_segs.proofs.aliasing.create_cs_alias.Goals as goal
 
 pub returns-then-has_no_alias-clause-answer : goal.returns-then-has_no_alias-clause-answer
 returns-then-has_no_alias-clause-answer c = λ p o es em.
-    refusal_answers _ 5 c.refusal.result (alias_refused p o c.args.pid c.args.sel c.in-Some.held (at_maps p c.args.regions.now c.args.pid c.args.sel _ em (sym c.in-Some.ensures)) (at_rights p c.args.regions.now c.args.pid c.args.sel c.in-Some.held true em (sym c.if-has_no_alias.ensures))) c.refusal.ensures
+    refusal_answers _ 5 c.refusal.result (alias_refused p o c.args.pid c.args.sel c.in-Some.held
+    (at_maps p c.args.regions.now c.args.pid c.args.sel _ em (sym c.in-Some.ensures))
+    (at_rights p c.args.regions.now c.args.pid c.args.sel c.in-Some.held true em (sym c.if-has_no_alias.ensures))) c.refusal.ensures
 
 pub returns-then-has_no_alias-clause-matches : goal.returns-then-has_no_alias-clause-matches
 returns-then-has_no_alias-clause-matches c = λ p o w x es em at q.
-    refusal_maps p c.args.regions.now w _ 5 em (alias_refused p o c.args.pid c.args.sel c.in-Some.held (at_maps p c.args.regions.now c.args.pid c.args.sel _ em (sym c.in-Some.ensures)) (at_rights p c.args.regions.now c.args.pid c.args.sel c.in-Some.held true em (sym c.if-has_no_alias.ensures))) q
+    refusal_maps p c.args.regions.now w _ 5 em (alias_refused p o c.args.pid c.args.sel c.in-Some.held
+    (at_maps p c.args.regions.now c.args.pid c.args.sel _ em (sym c.in-Some.ensures))
+    (at_rights p c.args.regions.now c.args.pid c.args.sel c.in-Some.held true em (sym c.if-has_no_alias.ensures))) q
 
 pub returns-else-has_no_alias-clause-answer : goal.returns-else-has_no_alias-clause-answer
 returns-else-has_no_alias-clause-answer c = λ p o es em.

@@ -22,25 +22,33 @@ returns-then-flags-gt-FLAGS-clause-matches g c = λ p o w x es em ei eb tells at
 pub returns-in-Some-clause-answer : goal.returns-in-Some-clause-answer
 returns-in-Some-clause-answer g c = λ p o es em.
     subst (λ (r : Ruling). AnswersRoomed r c.allocate.result)
-    (sym (alloc_tried p o c.args.regions.now c.args.pid c.args.size c.args.flags (Some c.in-Some.index) c.requires.process.0 em c.if-flags-gt-FLAGS.false (subst (λ (y : Region). Some c.in-Some.index ≡ chosen (is_taken c.args.regions.now y) (first_of y) (end_of y) 1) c.region_for.ensures c.in-Some.ensures.lowest)))
+    (sym (alloc_tried p o c.args.regions.now c.args.pid c.args.size c.args.flags (Some c.in-Some.index) c.requires.process.0 em
+    c.if-flags-gt-FLAGS.false (subst (λ (y : Region). Some c.in-Some.index
+    ≡ chosen (is_taken c.args.regions.now y) (first_of y) (end_of y) 1) c.region_for.ensures c.in-Some.ensures.lowest)))
     (c.allocate.ensures.answer p o es)
 
 pub returns-in-Some-clause-matches : goal.returns-in-Some-clause-matches
 returns-in-Some-clause-matches g c = λ p o w x es em ei eb tells at absent q.
     subst (λ (r : Ruling). Matches (moved p c.allocate.new.store c.allocate.new.regions (g.S.SwapDevice.block c.allocate.new.swap)) (with_all w (changes_roomed r c.allocate.result)))
-    (sym (alloc_tried p o c.args.regions.now c.args.pid c.args.size c.args.flags (Some c.in-Some.index) c.requires.process.0 em c.if-flags-gt-FLAGS.false (subst (λ (y : Region). Some c.in-Some.index ≡ chosen (is_taken c.args.regions.now y) (first_of y) (end_of y) 1) c.region_for.ensures c.in-Some.ensures.lowest)))
+    (sym (alloc_tried p o c.args.regions.now c.args.pid c.args.size c.args.flags (Some c.in-Some.index) c.requires.process.0 em
+    c.if-flags-gt-FLAGS.false (subst (λ (y : Region). Some c.in-Some.index
+    ≡ chosen (is_taken c.args.regions.now y) (first_of y) (end_of y) 1) c.region_for.ensures c.in-Some.ensures.lowest)))
     (c.allocate.ensures.matches p o w x es em ei eb tells at absent q)
 
 pub returns-in-None-clause-answer : goal.returns-in-None-clause-answer
 returns-in-None-clause-answer g c = λ p o es em.
     refusal_answers _ 8 c.refusal-in-None.result
-    (alloc_tried p o c.args.regions.now c.args.pid c.args.size c.args.flags None c.requires.process.0 em c.if-flags-gt-FLAGS.false (subst (λ (y : Region). ◌≡◌ {A = Option ℕ} None (chosen (is_taken c.args.regions.now y) (first_of y) (end_of y) 1)) c.region_for.ensures c.in-None.ensures.lowest)
+    (alloc_tried p o c.args.regions.now c.args.pid c.args.size c.args.flags None c.requires.process.0 em c.if-flags-gt-FLAGS.false
+    (subst (λ (y : Region). ◌≡◌ {A = Option ℕ} None (chosen (is_taken c.args.regions.now y) (first_of y) (end_of y) 1))
+    c.region_for.ensures c.in-None.ensures.lowest)
     ∙ to_none (known_in p o) c.args.pid c.args.size c.args.flags) c.refusal-in-None.ensures
 
 pub returns-in-None-clause-matches : goal.returns-in-None-clause-matches
 returns-in-None-clause-matches g c = λ p o w x es em ei eb tells at absent q.
     refusal_moved p c.args.store.now c.args.regions.now (g.S.SwapDevice.block c.args.swap.now) w _ 8 es em eb
-    (alloc_tried p o c.args.regions.now c.args.pid c.args.size c.args.flags None c.requires.process.0 em c.if-flags-gt-FLAGS.false (subst (λ (y : Region). ◌≡◌ {A = Option ℕ} None (chosen (is_taken c.args.regions.now y) (first_of y) (end_of y) 1)) c.region_for.ensures c.in-None.ensures.lowest)
+    (alloc_tried p o c.args.regions.now c.args.pid c.args.size c.args.flags None c.requires.process.0 em c.if-flags-gt-FLAGS.false
+    (subst (λ (y : Region). ◌≡◌ {A = Option ℕ} None (chosen (is_taken c.args.regions.now y) (first_of y) (end_of y) 1))
+    c.region_for.ensures c.in-None.ensures.lowest)
     ∙ to_none (known_in p o) c.args.pid c.args.size c.args.flags) q
 
 pub returns-then-flags-gt-FLAGS-clause-stops : goal.returns-then-flags-gt-FLAGS-clause-stops

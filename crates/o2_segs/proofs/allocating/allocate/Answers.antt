@@ -245,7 +245,9 @@ returns-in-None-lock_new-clause-idle g c = λ none.
     ])
 
 pub returns-then-not-is_locked-clause-goes_on : goal.returns-then-not-is_locked-clause-goes_on
-returns-then-not-is_locked-clause-goes_on g c = for_order c.args.images.now c.args.store.now c.make.new.store c.args.regions.now c.hold_made.new.regions (order_trans c.args.store.now c.make.new.store c.make.new.store c.args.regions.now c.args.regions.now c.hold_made.new.regions c.make.ensures.goes_on c.hold_made.ensures.goes_on) c.requires.backed.clean
+returns-then-not-is_locked-clause-goes_on g c = for_order c.args.images.now c.args.store.now c.make.new.store c.args.regions.now
+    c.hold_made.new.regions (order_trans c.args.store.now c.make.new.store c.make.new.store c.args.regions.now c.args.regions.now
+    c.hold_made.new.regions c.make.ensures.goes_on c.hold_made.ensures.goes_on) c.requires.backed.clean
 
 pub returns-in-Some-lock_new-clause-goes_on : goal.returns-in-Some-lock_new-clause-goes_on
 returns-in-Some-lock_new-clause-goes_on g c = then_for c.args.images.now c.args.store.now c.make.new.store c.lock_new.new.store c.args.regions.now c.args.regions.now c.lock_new.new.regions c.make.ensures.goes_on c.requires.backed.clean c.lock_new.ensures.goes_on

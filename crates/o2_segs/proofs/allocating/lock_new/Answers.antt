@@ -84,7 +84,9 @@ returns-in-Some-clause-limits g c = λ none. absurd (cc)
 
 pub returns-in-None-clause-limits : goal.returns-in-None-clause-limits
 returns-in-None-clause-limits g c = λ none.
-    limits_then c.args.store.now c.bring_in.new.store c.set_lock.new.store c.args.regions.now c.bring_in.new.regions c.bring_in.new.regions 0 0 (limits_moved c.args.store.now c.bring_in.new.store c.args.regions.now c.bring_in.new.regions c.bring_in.ensures.keeps.tables c.bring_in.ensures.maps)
+    limits_then c.args.store.now c.bring_in.new.store c.set_lock.new.store c.args.regions.now c.bring_in.new.regions c.bring_in.new.regions
+    0 0 (limits_moved c.args.store.now c.bring_in.new.store c.args.regions.now c.bring_in.new.regions c.bring_in.ensures.keeps.tables
+    c.bring_in.ensures.maps)
     (limits_locked c.bring_in.new.store c.set_lock.new.store c.bring_in.new.regions c.args.id 1 (alive_tables c.args.store.now c.bring_in.new.store c.bring_in.ensures.keeps.tables c.args.id c.requires.live) c.set_lock.ensures.sets)
 
 pub returns-in-Some-clause-undone : goal.returns-in-Some-clause-undone

@@ -23,24 +23,45 @@ pub returns-then-is_fixed-clause-matches : goal.returns-then-is_fixed-clause-mat
 returns-then-is_fixed-clause-matches g c = λ p o w es em ei eb tells q. refusal_moved p c.args.store.now c.args.regions.now _ w _ 5 es em eb (realloc_fixed p o c.args.regions.now c.args.pid c.args.size c.args.sel c.in-Some.held em (sym c.in-Some.ensures) (sym c.if-is_fixed.ensures)) q
 
 pub returns-then-keeps_its_size-clause-answer : goal.returns-then-keeps_its_size-clause-answer
-returns-then-keeps_its_size-clause-answer g c = λ p o es em. refusal_answers _ 5 c.refusal-then-keeps_its_size.result (realloc_kept p o c.args.store.now c.args.regions.now c.args.pid c.args.size c.args.sel c.in-Some.held es em c.requires.caller.named (sym c.in-Some.ensures) (sym c.if-is_fixed.ensures) (ap (keeps c.args.store.now c.in-Some.held.id.key) (sym c.full_size-bytes.ensures.size) ∙ sym c.if-keeps_its_size.ensures)) c.refusal-then-keeps_its_size.ensures
+returns-then-keeps_its_size-clause-answer g c = λ p o es em. refusal_answers _ 5 c.refusal-then-keeps_its_size.result
+    (realloc_kept p o c.args.store.now c.args.regions.now c.args.pid c.args.size c.args.sel c.in-Some.held es em c.requires.caller.named
+    (sym c.in-Some.ensures) (sym c.if-is_fixed.ensures)
+    (ap (keeps c.args.store.now c.in-Some.held.id.key) (sym c.full_size-bytes.ensures.size) ∙ sym c.if-keeps_its_size.ensures))
+    c.refusal-then-keeps_its_size.ensures
 
 pub returns-then-keeps_its_size-clause-matches : goal.returns-then-keeps_its_size-clause-matches
-returns-then-keeps_its_size-clause-matches g c = λ p o w es em ei eb tells q. refusal_moved p c.args.store.now c.args.regions.now _ w _ 5 es em eb (realloc_kept p o c.args.store.now c.args.regions.now c.args.pid c.args.size c.args.sel c.in-Some.held es em c.requires.caller.named (sym c.in-Some.ensures) (sym c.if-is_fixed.ensures) (ap (keeps c.args.store.now c.in-Some.held.id.key) (sym c.full_size-bytes.ensures.size) ∙ sym c.if-keeps_its_size.ensures)) q
+returns-then-keeps_its_size-clause-matches g c = λ p o w es em ei eb tells q. refusal_moved p c.args.store.now c.args.regions.now _ w _ 5 es
+    em eb (realloc_kept p o c.args.store.now c.args.regions.now c.args.pid c.args.size c.args.sel c.in-Some.held es em
+    c.requires.caller.named (sym c.in-Some.ensures) (sym c.if-is_fixed.ensures)
+    (ap (keeps c.args.store.now c.in-Some.held.id.key) (sym c.full_size-bytes.ensures.size) ∙ sym c.if-keeps_its_size.ensures)) q
 
 pub returns-in-Some-stop_of-clause-answer : goal.returns-in-Some-stop_of-clause-answer
-returns-in-Some-stop_of-clause-answer g c = λ p o es em. stop_answers _ c.resize.result c.in-Some-stop_of.stop (error_none (realloc_done p o c.args.store.now c.args.regions.now c.args.pid c.args.size c.args.sel c.in-Some.held es em c.requires.caller.named (sym c.in-Some.ensures) (sym c.if-is_fixed.ensures) (ap (keeps c.args.store.now c.in-Some.held.id.key) (sym c.full_size-bytes.ensures.size) ∙ sym c.if-keeps_its_size.ensures))) c.in-Some-stop_of.ensures
+returns-in-Some-stop_of-clause-answer g c = λ p o es em. stop_answers _ c.resize.result c.in-Some-stop_of.stop
+    (error_none (realloc_done p o c.args.store.now c.args.regions.now c.args.pid c.args.size c.args.sel c.in-Some.held es em
+    c.requires.caller.named (sym c.in-Some.ensures) (sym c.if-is_fixed.ensures)
+    (ap (keeps c.args.store.now c.in-Some.held.id.key) (sym c.full_size-bytes.ensures.size) ∙ sym c.if-keeps_its_size.ensures)))
+    c.in-Some-stop_of.ensures
 
 pub returns-in-Some-stop_of-clause-matches : goal.returns-in-Some-stop_of-clause-matches
 returns-in-Some-stop_of-clause-matches g c = λ p o w es em ei eb tells q.
-    stopped_matches p w c.resize.new.store c.resize.new.regions _ (reallocation (known_in p o) c.args.pid c.args.size c.args.sel) c.resize.result c.in-Some-stop_of.stop c.in-Some-stop_of.ensures ((c.resize.ensures.stays (not_here c.resize.result c.in-Some-stop_of.stop c.in-Some-stop_of.ensures)).world p w es em ei eb tells q)
+    stopped_matches p w c.resize.new.store c.resize.new.regions _ (reallocation (known_in p o) c.args.pid c.args.size c.args.sel)
+    c.resize.result c.in-Some-stop_of.stop c.in-Some-stop_of.ensures
+    ((c.resize.ensures.stays (not_here c.resize.result c.in-Some-stop_of.stop c.in-Some-stop_of.ensures)).world p w es em ei eb tells q)
 
 pub returns-in-None-stop_of-clause-answer : goal.returns-in-None-stop_of-clause-answer
-returns-in-None-stop_of-clause-answer g c = λ p o es em. done_answers _ _ 0 c.done.result (realloc_done p o c.args.store.now c.args.regions.now c.args.pid c.args.size c.args.sel c.in-Some.held es em c.requires.caller.named (sym c.in-Some.ensures) (sym c.if-is_fixed.ensures) (ap (keeps c.args.store.now c.in-Some.held.id.key) (sym c.full_size-bytes.ensures.size) ∙ sym c.if-keeps_its_size.ensures)) c.done.ensures
+returns-in-None-stop_of-clause-answer g c = λ p o es em. done_answers _ _ 0 c.done.result
+    (realloc_done p o c.args.store.now c.args.regions.now c.args.pid c.args.size c.args.sel c.in-Some.held es em c.requires.caller.named
+    (sym c.in-Some.ensures) (sym c.if-is_fixed.ensures)
+    (ap (keeps c.args.store.now c.in-Some.held.id.key) (sym c.full_size-bytes.ensures.size) ∙ sym c.if-keeps_its_size.ensures))
+    c.done.ensures
 
 pub returns-in-None-stop_of-clause-matches : goal.returns-in-None-stop_of-clause-matches
 returns-in-None-stop_of-clause-matches g c = λ p o w es em ei eb tells q.
-    sized_matches p w c.resize.new.store c.resize.new.regions _ c.in-Some.held.id _ _ _ (realloc_done p o c.args.store.now c.args.regions.now c.args.pid c.args.size c.args.sel c.in-Some.held es em c.requires.caller.named (sym c.in-Some.ensures) (sym c.if-is_fixed.ensures) (ap (keeps c.args.store.now c.in-Some.held.id.key) (sym c.full_size-bytes.ensures.size) ∙ sym c.if-keeps_its_size.ensures)) c.full_size-bytes.ensures.size
+    sized_matches p w c.resize.new.store c.resize.new.regions _ c.in-Some.held.id _ _ _
+    (realloc_done p o c.args.store.now c.args.regions.now c.args.pid c.args.size c.args.sel c.in-Some.held es em c.requires.caller.named
+    (sym c.in-Some.ensures) (sym c.if-is_fixed.ensures)
+    (ap (keeps c.args.store.now c.in-Some.held.id.key) (sym c.full_size-bytes.ensures.size) ∙ sym c.if-keeps_its_size.ensures))
+    c.full_size-bytes.ensures.size
     ((c.resize.ensures.matches (was_here c.resize.result c.in-None-stop_of.ensures c.resize.ensures.never)).world p w es em ei eb tells q)
 
 pub returns-in-None-clause-answer : goal.returns-in-None-clause-answer

@@ -58,37 +58,49 @@ make_named-requires-clause-new c = found_nothing c.find.result _ c.find.ensures.
 pub returns-in-Some-clause-answer : goal.returns-in-Some-clause-answer
 returns-in-Some-clause-answer c = λ p o es em texts.
     subst (λ (r : Ruling). Answers r c.make_named.result)
-    (sym (naming_new p o c.args.regions.now c.args.pid c.args.size c.args.name.now _ (sym c.if-not-is_name.ensures) (text_new c.args.store.now c.args.names.now o.text (folded c.args.name.now) texts (found_nothing c.find.result _ c.find.ensures.found (sym c.if-is_some.ensures))) em c.in-Some.ensures.lowest))
+    (sym (naming_new p o c.args.regions.now c.args.pid c.args.size c.args.name.now _ (sym c.if-not-is_name.ensures)
+    (text_new c.args.store.now c.args.names.now o.text (folded c.args.name.now) texts
+    (found_nothing c.find.result _ c.find.ensures.found (sym c.if-is_some.ensures))) em c.in-Some.ensures.lowest))
     (c.make_named.ensures.answer p o es)
 
 pub returns-in-Some-clause-matches : goal.returns-in-Some-clause-matches
 returns-in-Some-clause-matches c = λ p o w x es em texts at q.
     subst (λ (r : Ruling). Matches (record p { shelf = c.make_named.new.store; maps = c.make_named.new.regions }) (with_all w r.changes))
-    (sym (naming_new p o c.args.regions.now c.args.pid c.args.size c.args.name.now _ (sym c.if-not-is_name.ensures) (text_new c.args.store.now c.args.names.now o.text (folded c.args.name.now) texts (found_nothing c.find.result _ c.find.ensures.found (sym c.if-is_some.ensures))) em c.in-Some.ensures.lowest))
+    (sym (naming_new p o c.args.regions.now c.args.pid c.args.size c.args.name.now _ (sym c.if-not-is_name.ensures)
+    (text_new c.args.store.now c.args.names.now o.text (folded c.args.name.now) texts
+    (found_nothing c.find.result _ c.find.ensures.found (sym c.if-is_some.ensures))) em c.in-Some.ensures.lowest))
     (c.make_named.ensures.matches p o w x es em at q)
 
 pub returns-in-Some-clause-texts : goal.returns-in-Some-clause-texts
 returns-in-Some-clause-texts c = λ p o w es em texts was.
     subst (λ (r : Ruling). AreTexts c.make_named.new.store c.make_named.new.names (text_name (with_all w r.changes).texts))
-    (sym (naming_new p o c.args.regions.now c.args.pid c.args.size c.args.name.now _ (sym c.if-not-is_name.ensures) (text_new c.args.store.now c.args.names.now o.text (folded c.args.name.now) texts (found_nothing c.find.result _ c.find.ensures.found (sym c.if-is_some.ensures))) em c.in-Some.ensures.lowest))
+    (sym (naming_new p o c.args.regions.now c.args.pid c.args.size c.args.name.now _ (sym c.if-not-is_name.ensures)
+    (text_new c.args.store.now c.args.names.now o.text (folded c.args.name.now) texts
+    (found_nothing c.find.result _ c.find.ensures.found (sym c.if-is_some.ensures))) em c.in-Some.ensures.lowest))
     (c.make_named.ensures.texts p o w es was)
 
 pub returns-in-None-clause-answer : goal.returns-in-None-clause-answer
 returns-in-None-clause-answer c = λ p o es em texts.
     refusal_answers _ 8 c.refusal-in-None.result
-    (naming_new p o c.args.regions.now c.args.pid c.args.size c.args.name.now None (sym c.if-not-is_name.ensures) (text_new c.args.store.now c.args.names.now o.text (folded c.args.name.now) texts (found_nothing c.find.result _ c.find.ensures.found (sym c.if-is_some.ensures))) em c.in-None.ensures.lowest
+    (naming_new p o c.args.regions.now c.args.pid c.args.size c.args.name.now None (sym c.if-not-is_name.ensures)
+    (text_new c.args.store.now c.args.names.now o.text (folded c.args.name.now) texts
+    (found_nothing c.find.result _ c.find.ensures.found (sym c.if-is_some.ensures))) em c.in-None.ensures.lowest
     ∙ to_none (known_in p o) c.args.pid c.args.size (folded c.args.name.now)) c.refusal-in-None.ensures
 
 pub returns-in-None-clause-matches : goal.returns-in-None-clause-matches
 returns-in-None-clause-matches c = λ p o w x es em texts at q.
     refusal_matches p c.args.store.now c.args.regions.now w _ 8 es em
-    (naming_new p o c.args.regions.now c.args.pid c.args.size c.args.name.now None (sym c.if-not-is_name.ensures) (text_new c.args.store.now c.args.names.now o.text (folded c.args.name.now) texts (found_nothing c.find.result _ c.find.ensures.found (sym c.if-is_some.ensures))) em c.in-None.ensures.lowest
+    (naming_new p o c.args.regions.now c.args.pid c.args.size c.args.name.now None (sym c.if-not-is_name.ensures)
+    (text_new c.args.store.now c.args.names.now o.text (folded c.args.name.now) texts
+    (found_nothing c.find.result _ c.find.ensures.found (sym c.if-is_some.ensures))) em c.in-None.ensures.lowest
     ∙ to_none (known_in p o) c.args.pid c.args.size (folded c.args.name.now)) q
 
 pub returns-in-None-clause-texts : goal.returns-in-None-clause-texts
 returns-in-None-clause-texts c = λ p o w es em texts was.
     texts_none c.args.store.now c.args.names.now w _ 8
-    (naming_new p o c.args.regions.now c.args.pid c.args.size c.args.name.now None (sym c.if-not-is_name.ensures) (text_new c.args.store.now c.args.names.now o.text (folded c.args.name.now) texts (found_nothing c.find.result _ c.find.ensures.found (sym c.if-is_some.ensures))) em c.in-None.ensures.lowest
+    (naming_new p o c.args.regions.now c.args.pid c.args.size c.args.name.now None (sym c.if-not-is_name.ensures)
+    (text_new c.args.store.now c.args.names.now o.text (folded c.args.name.now) texts
+    (found_nothing c.find.result _ c.find.ensures.found (sym c.if-is_some.ensures))) em c.in-None.ensures.lowest
     ∙ to_none (known_in p o) c.args.pid c.args.size (folded c.args.name.now)) was
 
 pub returns-in-None-clause-limits : goal.returns-in-None-clause-limits
@@ -108,13 +120,17 @@ returns-then-is_some-clause-once c = λ p o w es em texts was once.
 pub returns-in-Some-clause-once : goal.returns-in-Some-clause-once
 returns-in-Some-clause-once c = λ p o w es em texts was once.
     subst (λ (r : Ruling). AreOnce (with_all w r.changes).texts)
-    (sym (naming_new p o c.args.regions.now c.args.pid c.args.size c.args.name.now _ (sym c.if-not-is_name.ensures) (text_new c.args.store.now c.args.names.now o.text (folded c.args.name.now) texts (found_nothing c.find.result _ c.find.ensures.found (sym c.if-is_some.ensures))) em c.in-Some.ensures.lowest))
+    (sym (naming_new p o c.args.regions.now c.args.pid c.args.size c.args.name.now _ (sym c.if-not-is_name.ensures)
+    (text_new c.args.store.now c.args.names.now o.text (folded c.args.name.now) texts
+    (found_nothing c.find.result _ c.find.ensures.found (sym c.if-is_some.ensures))) em c.in-Some.ensures.lowest))
     (c.make_named.ensures.once p o w es was once)
 
 pub returns-in-None-clause-once : goal.returns-in-None-clause-once
 returns-in-None-clause-once c = λ p o w es em texts was once.
     once_none w _ 8
-    (naming_new p o c.args.regions.now c.args.pid c.args.size c.args.name.now None (sym c.if-not-is_name.ensures) (text_new c.args.store.now c.args.names.now o.text (folded c.args.name.now) texts (found_nothing c.find.result _ c.find.ensures.found (sym c.if-is_some.ensures))) em c.in-None.ensures.lowest
+    (naming_new p o c.args.regions.now c.args.pid c.args.size c.args.name.now None (sym c.if-not-is_name.ensures)
+    (text_new c.args.store.now c.args.names.now o.text (folded c.args.name.now) texts
+    (found_nothing c.find.result _ c.find.ensures.found (sym c.if-is_some.ensures))) em c.in-None.ensures.lowest
     ∙ to_none (known_in p o) c.args.pid c.args.size (folded c.args.name.now)) once
 
 pub returns-then-not-is_name-clause-goes_on : goal.returns-then-not-is_name-clause-goes_on

@@ -71,7 +71,9 @@ returns-in-Some-clause-places c =
 pub returns-in-Some-clause-limits : goal.returns-in-Some-clause-limits
 returns-in-Some-clause-limits c =
     limits_then c.args.store.now c.make.new.store c.make.new.store c.args.regions.now c.args.regions.now c.hold_named.new.regions 1 0 (limits_added c.args.store.now c.make.new.store c.args.regions.now c.in-Some.id _ refl c.in-Some.ensures.added)
-    (limits_held c.make.new.store c.args.regions.now c.hold_named.new.regions c.args.pid c.args.index _ _ refl (new_made c.args.regions.now c.args.pid c.args.index c.in-Some.id c.law.ensures (run_shared c.args.regions.now c.args.pid c.args.index c.requires.free) c.in-Some.ensures.unheld) c.hold_named.ensures.grants)
+    (limits_held c.make.new.store c.args.regions.now c.hold_named.new.regions c.args.pid c.args.index _ _ refl
+    (new_made c.args.regions.now c.args.pid c.args.index c.in-Some.id c.law.ensures
+    (run_shared c.args.regions.now c.args.pid c.args.index c.requires.free) c.in-Some.ensures.unheld) c.hold_named.ensures.grants)
 
 pub returns-in-Some-clause-entries : goal.returns-in-Some-clause-entries
 returns-in-Some-clause-entries c = entries_added c.args.store.now c.make.new.store c.in-Some.id _ c.in-Some.ensures.added

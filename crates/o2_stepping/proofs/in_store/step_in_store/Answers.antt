@@ -165,7 +165,9 @@ returns-in-Ok-Stepped-clause-takes_as g c = λ text may bytes known tells left s
     let u = c.serve_and_try.new.store in
     let d : ℕ → List ℕ = away_of u c.serve_and_try.new.regions im (S.blocks c.serve_and_try.new.swap) (S.block c.serve_and_try.new.swap) in
     ran_tries z (effect z) c.serve_and_try.new.cpu (bytes_with a s) (bytes_with d u) _ _ _ _ _ _ c.in-Ok-Stepped.field-0 c.in-Ok-Stepped.stepped c.in-Ok-Stepped.field-0-is
-    (tries_from a b s t m n pid cpu bytes known (view_same a b s t m n pid cpu i.shape.tables i.shape.holds (i.bytes (c.in-Ok-Stepped.ensures.device.1 tells))) (i.bytes (c.in-Ok-Stepped.ensures.device.1 tells)) c.tries.cpu c.serve_and_try.new.cpu (bytes_with d u) _ _ _ _ _ _ _ _ _ (Ok c.in-Ok-Stepped.field-0) i.cpu
+    (tries_from a b s t m n pid cpu bytes known (view_same a b s t m n pid cpu i.shape.tables i.shape.holds
+    (i.bytes (c.in-Ok-Stepped.ensures.device.1 tells))) (i.bytes (c.in-Ok-Stepped.ensures.device.1 tells)) c.tries.cpu
+    c.serve_and_try.new.cpu (bytes_with d u) _ _ _ _ _ _ _ _ _ (Ok c.in-Ok-Stepped.field-0) i.cpu
     (ap (λ x. left_as text (g.I.Source.left x) (g.I.Source.past x)) i.input) (ap g.C.Sink.taken i.console) (ap g.R.Sink.taken i.report)
     (c.in-Ok-Stepped.ensures.tries text may bytes known tells (ap (λ x. left_as text (g.I.Source.left x) (g.I.Source.past x)) i.input ∙ left) (record { avail = same.avail ∙ sym i.avail })))
 
@@ -187,7 +189,9 @@ returns-in-Err-clause-takes_as g c = λ text may bytes known tells left same.
     let b : ℕ → List ℕ = away_of t n im (S.blocks c.tries.swap) (S.block c.tries.swap) in
     let u = c.serve_and_try.new.store in
     let d : ℕ → List ℕ = away_of u c.serve_and_try.new.regions im (S.blocks c.serve_and_try.new.swap) (S.block c.serve_and_try.new.swap) in
-    tries_from a b s t m n pid cpu bytes known (view_same a b s t m n pid cpu i.shape.tables i.shape.holds (i.bytes (c.in-Err.ensures.device.1 tells))) (i.bytes (c.in-Err.ensures.device.1 tells)) c.tries.cpu c.serve_and_try.new.cpu (bytes_with d u) _ _ _ _ _ _ _ _ _ (Err c.in-Err.fault) i.cpu
+    tries_from a b s t m n pid cpu bytes known (view_same a b s t m n pid cpu i.shape.tables i.shape.holds
+    (i.bytes (c.in-Err.ensures.device.1 tells))) (i.bytes (c.in-Err.ensures.device.1 tells)) c.tries.cpu c.serve_and_try.new.cpu
+    (bytes_with d u) _ _ _ _ _ _ _ _ _ (Err c.in-Err.fault) i.cpu
     (ap (λ x. left_as text (g.I.Source.left x) (g.I.Source.past x)) i.input) (ap g.C.Sink.taken i.console) (ap g.R.Sink.taken i.report)
     (c.in-Err.ensures.tries text may bytes known tells (ap (λ x. left_as text (g.I.Source.left x) (g.I.Source.past x)) i.input ∙ left) (record { avail = same.avail ∙ sym i.avail }))
 
@@ -234,7 +238,12 @@ returns-in-Err-clause-device g c =
       blocks = e.device.0 ∙ i.blocks;
       told = λ w. i.told (e.device.1 w);
       faults = (let a = i.faults in let b = e.swap_count in omega (arith, a, b));
-      cause = λ failed. (let t = c.tries.store in let a = i.faults in let b = failed_at (t.places.size < all_needed t c.tries.need) ((all_of t.swap < swap_load t) × (t.places.size < live_load t)) (Rose (S.faults c.tries.swap) (S.faults c.serve_and_try.new.swap)) (Err c.in-Err.fault) failed e.causes in omega (arith, a, b));
+      cause = λ failed.
+          let t = c.tries.store in
+          let a = i.faults in
+          let b = failed_at (t.places.size < all_needed t c.tries.need) ((all_of t.swap < swap_load t) × (t.places.size < live_load t))
+          (Rose (S.faults c.tries.swap) (S.faults c.serve_and_try.new.swap)) (Err c.in-Err.fault) failed e.causes in
+          omega (arith, a, b);
     }
 
 pub returns-in-Ok-Stepped-clause-device : goal.returns-in-Ok-Stepped-clause-device
@@ -359,7 +368,9 @@ returns-then-not-add_missed-clause-takes_as g c = λ text may bytes known tells 
     let a : ℕ → List ℕ = away_of s m im (S.blocks c.args.swap.now) (S.block c.args.swap.now) in
     let b : ℕ → List ℕ = away_of t n im (S.blocks c.tries.swap) (S.block c.tries.swap) in
     let sel = c.in-Ok-Missed.sel in
-    let w = subst (λ (z : Before). IsWanted c.serve_and_try.new.regions pid c.tries.need (touched z) sel) (first_from a b s t m n pid cpu bytes known (view_same a b s t m n pid cpu i.shape.tables i.shape.holds (i.bytes (c.in-Ok-Missed.ensures.device.1 tells))) (i.bytes (c.in-Ok-Missed.ensures.device.1 tells)) c.tries.cpu i.cpu)
+    let w = subst (λ (z : Before). IsWanted c.serve_and_try.new.regions pid c.tries.need (touched z) sel)
+    (first_from a b s t m n pid cpu bytes known (view_same a b s t m n pid cpu i.shape.tables i.shape.holds
+    (i.bytes (c.in-Ok-Missed.ensures.device.1 tells))) (i.bytes (c.in-Ok-Missed.ensures.device.1 tells)) c.tries.cpu i.cpu)
     (missed_at _ c.in-Ok-Missed.field-0 sel c.in-Ok-Missed.field-0-is (c.in-Ok-Missed.ensures.missed bytes known tells)) in
     absurd (no_place (held_under c.serve_and_try.new.regions pid sel.0) w.held _ (length c.tries.need) w.under (i.left bytes known (c.in-Ok-Missed.ensures.device.1 tells)) (c.add_missed.ensures.full c.if-not-add_missed.true))
 
@@ -380,7 +391,9 @@ returns-then-not-add_missed-clause-no_room g c = λ bytes known tells.
     let a : ℕ → List ℕ = away_of s m im (S.blocks c.args.swap.now) (S.block c.args.swap.now) in
     let b : ℕ → List ℕ = away_of t n im (S.blocks c.tries.swap) (S.block c.tries.swap) in
     let sel = c.in-Ok-Missed.sel in
-    let w = subst (λ (z : Before). IsWanted c.serve_and_try.new.regions pid c.tries.need (touched z) sel) (first_from a b s t m n pid cpu bytes known (view_same a b s t m n pid cpu i.shape.tables i.shape.holds (i.bytes (c.in-Ok-Missed.ensures.device.1 tells))) (i.bytes (c.in-Ok-Missed.ensures.device.1 tells)) c.tries.cpu i.cpu)
+    let w = subst (λ (z : Before). IsWanted c.serve_and_try.new.regions pid c.tries.need (touched z) sel)
+    (first_from a b s t m n pid cpu bytes known (view_same a b s t m n pid cpu i.shape.tables i.shape.holds
+    (i.bytes (c.in-Ok-Missed.ensures.device.1 tells))) (i.bytes (c.in-Ok-Missed.ensures.device.1 tells)) c.tries.cpu i.cpu)
     (missed_at _ c.in-Ok-Missed.field-0 sel c.in-Ok-Missed.field-0-is (c.in-Ok-Missed.ensures.missed bytes known tells)) in
     absurd (no_place (held_under c.serve_and_try.new.regions pid sel.0) w.held _ (length c.tries.need) w.under (i.left bytes known (c.in-Ok-Missed.ensures.device.1 tells)) (c.add_missed.ensures.full c.if-not-add_missed.true))
 

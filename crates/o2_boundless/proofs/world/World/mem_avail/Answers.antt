@@ -14,7 +14,10 @@ returns-then-may_write c =
     let P : ℕ → Type 0 = λ m. IfOk c.avail_good.result (λ x. (a : Before) → a.number ≡ c.args.number → a.cpu ≡ c.registers-cpu.result
     → IsOutcome a x (told_good a (codes "DosMemAvail") (long_bytes m) (Long (m / 65536) (m % 65536) ∷ []) c.args.selector c.args.offset)) in
     where_true (before_call c.args.self.now c.args.number c.args.process.now) c.avail_good.result _ _ _ (sym c.may_write.ensures ∙ c.if-may_write.true)
-    (here (before_call c.args.self.now c.args.number c.args.process.now) c.avail_good.result c.registers-cpu.result (λ (a : Before). told_good a (codes "DosMemAvail") (long_bytes c.args.self.now.avail) (Long (c.args.self.now.avail / 65536) (c.args.self.now.avail % 65536) ∷ []) c.args.selector c.args.offset) (sym c.registers-cpu.ensures) (subst P c.available.ensures c.avail_good.ensures))
+    (here (before_call c.args.self.now c.args.number c.args.process.now) c.avail_good.result c.registers-cpu.result
+    (λ (a : Before). told_good a (codes "DosMemAvail") (long_bytes c.args.self.now.avail)
+    (Long (c.args.self.now.avail / 65536) (c.args.self.now.avail % 65536) ∷ []) c.args.selector c.args.offset)
+    (sym c.registers-cpu.ensures) (subst P c.available.ensures c.avail_good.ensures))
 
 pub returns-else-may_write : goal.returns-else-may_write
 returns-else-may_write c =

@@ -15,5 +15,7 @@ returns c =
     rehuged_row (before_call a.self.now a.number a.process.now) c.back.result a.segs a.part a.selector c.without-after.result c.in_ok-verdict.verdict c.in_ok-dropped.dropped.items
     (c.in_ok-verdict.ensures ∙ ap (huge_reallocation (known_by a.self.now) a.number a.segs a.part a.selector) c.registers-cpu.ensures)
     (c.in_ok-dropped.ensures ∙ ap (λ (es : List Edit). dropped_indexes (changes_of es)) c.deref.ensures.value)
-    (c.without-after.ensures ∙ (ap (λ (is : List ℕ). without c.returned-after.result is) c.deref-2.ensures.value ∙ ap (λ (r : Cpu). without r c.in_ok-dropped.dropped.items) (c.returned-after.ensures ∙ ap (λ (r : Cpu). returned r r.ip 3 c.in_ok-verdict.verdict.error) c.registers-cpu.ensures)))
+    (c.without-after.ensures ∙ (ap (λ (is : List ℕ). without c.returned-after.result is) c.deref-2.ensures.value
+    ∙ ap (λ (r : Cpu). without r c.in_ok-dropped.dropped.items)
+    (c.returned-after.ensures ∙ ap (λ (r : Cpu). returned r r.ip 3 c.in_ok-verdict.verdict.error) c.registers-cpu.ensures)))
     c.back.ensures

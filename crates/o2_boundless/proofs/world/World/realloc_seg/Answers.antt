@@ -6,4 +6,7 @@ use Rattle.o2_boundless.proofs.Rows.{ruled_row}
 use Rattle.o2_boundless.proofs.world.World.realloc_seg.Goals as goal
 
 pub returns : goal.returns
-returns c = ruled_row (before_call c.args.self.now c.args.number c.args.process.now) c.ruled.result c.registers.result 2 (codes "DosReallocSeg") (Word c.args.size ∷ Word c.args.selector ∷ []) c.in_ok-verdict.verdict (reallocation (known_by c.args.self.now) c.args.number c.args.size c.args.selector) (sym c.registers.ensures) c.in_ok-verdict.ensures c.ruled.ensures
+returns c = ruled_row (before_call c.args.self.now c.args.number c.args.process.now) c.ruled.result c.registers.result 2
+    (codes "DosReallocSeg") (Word c.args.size ∷ Word c.args.selector ∷ []) c.in_ok-verdict.verdict
+    (reallocation (known_by c.args.self.now) c.args.number c.args.size c.args.selector) (sym c.registers.ensures) c.in_ok-verdict.ensures
+    c.ruled.ensures

@@ -6,4 +6,6 @@ use Rattle.o2_boundless.proofs.Rows.{ruled_row}
 use Rattle.o2_boundless.proofs.world.World.unlock_seg.Goals as goal
 
 pub returns : goal.returns
-returns c = ruled_row (before_call c.args.self.now c.args.number c.args.process.now) c.ruled.result c.registers.result 1 (codes "DosUnlockSeg") (Word c.args.selector ∷ []) c.in_ok-verdict.verdict (unlocking (known_by c.args.self.now) c.args.number c.args.selector) (sym c.registers.ensures) c.in_ok-verdict.ensures c.ruled.ensures
+returns c = ruled_row (before_call c.args.self.now c.args.number c.args.process.now) c.ruled.result c.registers.result 1
+    (codes "DosUnlockSeg") (Word c.args.selector ∷ []) c.in_ok-verdict.verdict
+    (unlocking (known_by c.args.self.now) c.args.number c.args.selector) (sym c.registers.ensures) c.in_ok-verdict.ensures c.ruled.ensures

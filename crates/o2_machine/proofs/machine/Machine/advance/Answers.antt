@@ -181,7 +181,9 @@ returns-in-Err-Stopped-clause-device g c = record {
   marked = λ n. c.in-Err-Stopped.ensures.marks n ∙ c.requires.device.marked n ∙ ap (λ (z : Schedule). lives z.flags n) (sym c.next.ensures.same);
   few = (let f = c.requires.device.few in let m = c.in-Err-Stopped.ensures.adds.made in let same = ap (λ (z : Schedule). z.dispatch.budget) c.next.ensures.same in omega (arith, f, m, same));
   budget = (let f = c.requires.device.budget in let same = ap (λ (z : Schedule). z.dispatch.budget) c.next.ensures.same in omega (arith, f, same));
-  held = few_more _ _ _ (let same = ap (λ (z : Schedule). z.dispatch.budget) c.next.ensures.same in omega (arith, same)) (c.in-Err-Stopped.ensures.adds.held (4294967290 - c.args.self.now.sched.dispatch.budget) (let b = c.requires.device.budget in omega (arith, b)) c.requires.device.held);
+  held = few_more _ _ _ (let same = ap (λ (z : Schedule). z.dispatch.budget) c.next.ensures.same in omega (arith, same))
+      (c.in-Err-Stopped.ensures.adds.held (4294967290 - c.args.self.now.sched.dispatch.budget)
+      (let b = c.requires.device.budget in omega (arith, b)) c.requires.device.held);
 }
 
 pub returns-then-ran-clause-device : goal.returns-then-ran-clause-device

@@ -12,7 +12,9 @@ invariant_of-self c =
     let id : c.args.id < length i.marks.items = subst (λ (t : Turns). c.args.id < length t.marks) (sym c.self.view_is) c.requires in
     let long : length i.ring.items ≡ length i.marks.items = h.cycle.ring_long in
     let long1 : length c.step_back-self-inside.new.ring.items ≡ length i.marks.items = s.ring.ring_long ∙ long in
-    let left : HasLeft i.marks.items i.ring.items i.turns.items i.count i.hand c.args.id c.step_back-self-inside.new.ring.items c.step_back-self-inside.new.turns.items c.step_back-self-inside.result c.quit-self-inside.new.ring.items c.quit-self-inside.new.turns.items c.quit-self-inside.result = record {
+    let left : HasLeft i.marks.items i.ring.items i.turns.items i.count i.hand c.args.id c.step_back-self-inside.new.ring.items
+    c.step_back-self-inside.new.turns.items c.step_back-self-inside.result c.quit-self-inside.new.ring.items
+    c.quit-self-inside.new.turns.items c.quit-self-inside.result = record {
       clock = h;
       id_in = id;
       cycle1 = subst (IsRing c.step_back-self-inside.new.ring.items c.step_back-self-inside.new.turns.items) long s.ring;
@@ -29,8 +31,13 @@ invariant_of-self c =
       first = λ k l. q.first k (subst (λ (n : ℕ). k < n) (sym long1) l);
       stay = λ k l. q.stay k (subst (λ (n : ℕ). k < n) (sym long1) l);
       beyond = λ k l. q.beyond k (subst (λ (n : ℕ). k < n) (sym long1) l);
-    } in
-    (left_clock i.marks.items i.ring.items i.turns.items i.count i.hand c.args.id c.step_back-self-inside.new.ring.items c.step_back-self-inside.new.turns.items c.step_back-self-inside.result c.quit-self-inside.new.ring.items c.quit-self-inside.new.turns.items c.quit-self-inside.result left, rw (length-set i.marks.items c.args.id no_mark) c.self.invariant.1)
+    } in (
+      left_clock i.marks.items i.ring.items i.turns.items i.count i.hand c.args.id c.step_back-self-inside.new.ring.items
+          c.step_back-self-inside.new.turns.items c.step_back-self-inside.result c.quit-self-inside.new.ring.items
+          c.quit-self-inside.new.turns.items c.quit-self-inside.result left,
+      rw (length-set i.marks.items c.args.id no_mark)
+          c.self.invariant.1,
+    )
 
 pub returns-clause-ahead : goal.returns-clause-ahead
 returns-clause-ahead c =
@@ -41,7 +48,9 @@ returns-clause-ahead c =
     let id : c.args.id < length i.marks.items = subst (λ (t : Turns). c.args.id < length t.marks) (sym c.self.view_is) c.requires in
     let long : length i.ring.items ≡ length i.marks.items = h.cycle.ring_long in
     let long1 : length c.step_back-self-inside.new.ring.items ≡ length i.marks.items = s.ring.ring_long ∙ long in
-    let left : HasLeft i.marks.items i.ring.items i.turns.items i.count i.hand c.args.id c.step_back-self-inside.new.ring.items c.step_back-self-inside.new.turns.items c.step_back-self-inside.result c.quit-self-inside.new.ring.items c.quit-self-inside.new.turns.items c.quit-self-inside.result = record {
+    let left : HasLeft i.marks.items i.ring.items i.turns.items i.count i.hand c.args.id c.step_back-self-inside.new.ring.items
+    c.step_back-self-inside.new.turns.items c.step_back-self-inside.result c.quit-self-inside.new.ring.items
+    c.quit-self-inside.new.turns.items c.quit-self-inside.result = record {
       clock = h;
       id_in = id;
       cycle1 = subst (IsRing c.step_back-self-inside.new.ring.items c.step_back-self-inside.new.turns.items) long s.ring;
@@ -59,4 +68,6 @@ returns-clause-ahead c =
       stay = λ k l. q.stay k (subst (λ (n : ℕ). k < n) (sym long1) l);
       beyond = λ k l. q.beyond k (subst (λ (n : ℕ). k < n) (sym long1) l);
     } in
-    rw (← c.self.view_is) (left_ahead i.marks.items i.ring.items i.turns.items i.count i.hand c.args.id c.step_back-self-inside.new.ring.items c.step_back-self-inside.new.turns.items c.step_back-self-inside.result c.quit-self-inside.new.ring.items c.quit-self-inside.new.turns.items c.quit-self-inside.result left)
+    rw (← c.self.view_is) (left_ahead i.marks.items i.ring.items i.turns.items i.count i.hand c.args.id
+    c.step_back-self-inside.new.ring.items c.step_back-self-inside.new.turns.items c.step_back-self-inside.result
+    c.quit-self-inside.new.ring.items c.quit-self-inside.new.turns.items c.quit-self-inside.result left)

@@ -28,7 +28,9 @@ returns-clause-next c =
     let h = c.self.invariant.0 in
     let s = rw c.deref.ensures.value at c.in-Some.ensures.some in
     let e : get_or i.ring.items c.in-Some.place 0 ≡ c.index.result.now = sym (get_or_read i.ring.items c.in-Some.place c.index.result.now (omega (arith, s.below, h.some, h.cycle.ring_long)) c.index.ensures 0) in
-    rw (← c.self.view_is) (subst (IsNext (record { marks = i.marks.items; places = i.turns.items; hand = i.hand }) c.choose.new.marks.items c.args.keep.now) e (chosen_next i.marks.items c.choose.new.marks.items i.ring.items i.turns.items c.args.keep.now i.count i.hand c.in-Some.place h s))
+    rw (← c.self.view_is) (subst (IsNext (record { marks = i.marks.items; places = i.turns.items; hand = i.hand }) c.choose.new.marks.items
+    c.args.keep.now) e (chosen_next i.marks.items c.choose.new.marks.items i.ring.items i.turns.items c.args.keep.now i.count i.hand
+    c.in-Some.place h s))
 
 pub returns-clause-round : goal.returns-clause-round
 returns-clause-round c =

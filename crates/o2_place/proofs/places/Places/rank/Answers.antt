@@ -12,4 +12,6 @@ overflow_cast-result c =
 pub returns-clause-some : goal.returns-clause-some
 returns-clause-some c =
     let i = c.self.inside in
-    rw (← c.self.view_is) (ranked i.ranges.items i.spots.items i.size i.taken c.args.id c.slot_for.result c.index-spot.result.now c.self.invariant.0 (rw (← c.self.view_is) at c.requires) c.index-spot.ensures c.if-spot-eq0.false (rw c.deref.ensures.value at c.slot_for.ensures.before) (rw c.deref.ensures.value at c.slot_for.ensures.after))
+    rw (← c.self.view_is) (ranked i.ranges.items i.spots.items i.size i.taken c.args.id c.slot_for.result c.index-spot.result.now
+    c.self.invariant.0 (rw (← c.self.view_is) at c.requires) c.index-spot.ensures c.if-spot-eq0.false
+    (rw c.deref.ensures.value at c.slot_for.ensures.before) (rw c.deref.ensures.value at c.slot_for.ensures.after))

@@ -15,7 +15,9 @@ index_mut-requires-2 c =
 pub overflow_add-self : goal.overflow_add-self
 overflow_add-self c =
     let i = c.self.inside in
-    let h = IsPlaces-reshape_read i.ranges.items i.spots.items i.size i.taken c.args.k c.args.at c.args.len c.index-was.result.now c.index-was.ensures c.self.invariant.0 (rw (← c.self.view_is) at c.requires.within) c.requires.some (rw (← c.self.view_is) at c.requires.above) (rw (← c.self.view_is) at c.requires.below) in
+    let h = IsPlaces-reshape_read i.ranges.items i.spots.items i.size i.taken c.args.k c.args.at c.args.len c.index-was.result.now
+    c.index-was.ensures c.self.invariant.0 (rw (← c.self.view_is) at c.requires.within) c.requires.some
+    (rw (← c.self.view_is) at c.requires.above) (rw (← c.self.view_is) at c.requires.below) in
     let u = used-le _ 0 i.size h.layout.laid in
     let s : i.size < 2 ^ 32 = search rules in
     omega (arith, u, h.counted, s)
@@ -23,7 +25,9 @@ overflow_add-self c =
 pub invariant_of-self : goal.invariant_of-self
 invariant_of-self c =
     let i = c.self.inside in
-    let h = IsPlaces-reshape_read i.ranges.items i.spots.items i.size i.taken c.args.k c.args.at c.args.len c.index-was.result.now c.index-was.ensures c.self.invariant.0 (rw (← c.self.view_is) at c.requires.within) c.requires.some (rw (← c.self.view_is) at c.requires.above) (rw (← c.self.view_is) at c.requires.below) in
+    let h = IsPlaces-reshape_read i.ranges.items i.spots.items i.size i.taken c.args.k c.args.at c.args.len c.index-was.result.now
+    c.index-was.ensures c.self.invariant.0 (rw (← c.self.view_is) at c.requires.within) c.requires.some
+    (rw (← c.self.view_is) at c.requires.above) (rw (← c.self.view_is) at c.requires.below) in
     let n = length-set i.spots.items c.index-was.result.now.id (record { at = c.args.at; len = c.args.len }) in
     (h, omega (arith, n, c.self.invariant.1), omega (arith, n, c.self.invariant.2))
 

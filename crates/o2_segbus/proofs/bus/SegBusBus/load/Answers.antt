@@ -12,7 +12,10 @@ use Rattle.o2_segbus.proofs.bus.SegBusBus.load.Goals as goal
 pub invariant_of-self : goal.invariant_of-self
 invariant_of-self c =
     let k = subst (λ (m : Maps). IsKept c.args.self.now.store.now m c.args.self.now.pid c.set_register.new.registers) (sym c.mark_named.ensures)
-    (subst (λ (x : SegmentRegisters). IsKept c.args.self.now.store.now (with_mark_of c.args.self.now.regions.now c.args.self.now.pid c.args.sel.0) c.args.self.now.pid x) (sym (c.set_register.ensures ∙ ap (λ (d : Descriptor). with_register_in c.args.self.now.registers c.args.reg (record { selector = c.args.sel.0; descriptor = d })) c.loaded-descriptor.ensures))
+    (subst (λ (x : SegmentRegisters). IsKept c.args.self.now.store.now
+    (with_mark_of c.args.self.now.regions.now c.args.self.now.pid c.args.sel.0) c.args.self.now.pid x)
+    (sym (c.set_register.ensures ∙ ap (λ (d : Descriptor). with_register_in c.args.self.now.registers c.args.reg
+    (record { selector = c.args.sel.0; descriptor = d })) c.loaded-descriptor.ensures))
     (load_keeps c.args.self.now.store.ghost_name c.args.self.now.regions.ghost_name c.args.self.now.store.now c.args.self.now.regions.now
     c.args.self.now.pid c.args.self.now.registers c.args.reg c.args.sel c.args.self.now.process c.args.self.now.named
     c.args.self.now.settled c.args.self.now.loaded c.requires)) in

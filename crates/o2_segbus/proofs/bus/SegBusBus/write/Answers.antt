@@ -37,7 +37,9 @@ invariant_of-self c =
 pub returns : goal.returns
 returns c =
     ap (λ (s : Shelf). bus_view c.args.self.now.store.ghost_name c.args.self.now.regions.ghost_name s c.args.self.now.regions.now c.args.self.now.pid c.args.self.now.registers) c.write.ensures
-    ∙ (ap (λ (d : Descriptor). bus_view c.args.self.now.store.ghost_name c.args.self.now.regions.ghost_name (with_memory c.args.self.now.store.now (put_at c.args.self.now.store.now.memory (d.base + c.args.off) c.args.width c.args.value)) c.args.self.now.regions.now c.args.self.now.pid c.args.self.now.registers) c.descriptor_in-descriptor.ensures
+    ∙ (ap (λ (d : Descriptor). bus_view c.args.self.now.store.ghost_name c.args.self.now.regions.ghost_name
+    (with_memory c.args.self.now.store.now (put_at c.args.self.now.store.now.memory (d.base + c.args.off) c.args.width c.args.value))
+    c.args.self.now.regions.now c.args.self.now.pid c.args.self.now.registers) c.descriptor_in-descriptor.ensures
     ∙ write_view c.args.self.now.store.ghost_name c.args.self.now.regions.ghost_name c.args.self.now.store.now c.args.self.now.regions.now
     c.args.self.now.pid c.args.self.now.registers c.args.reg c.args.off c.args.width c.args.value c.law.ensures.shelf
     c.law.ensures.apart (room_says c.args.self.now.store.ghost_name c.args.self.now.regions.ghost_name c.args.self.now.store.now

@@ -18,5 +18,7 @@ returns c =
     (let place = c.args.index - 4096 in
     let text = c.folded-text.result in
     let left : c.drop_place.new.names.items ≡ set (without text c.self.inside.names.items) place None = c.drop_place.ensures.names ∙ ap (λ (ns : List (Option Name)). set ns place None) c.drop_text.ensures.names in
-    let all : c.add.new.names.items ≡ set (without text c.self.inside.names.items) place (Some (record { text = text; id = c.args.id })) = c.add.ensures.names ∙ ap (λ (ns : List (Option Name)). set ns place (Some (record { text = text; id = c.args.id }))) left ∙ set-set (without text c.self.inside.names.items) place None (Some (record { text = text; id = c.args.id })) in
+    let all : c.add.new.names.items ≡ set (without text c.self.inside.names.items) place (Some (record { text = text; id = c.args.id })) =
+    c.add.ensures.names ∙ ap (λ (ns : List (Option Name)). set ns place (Some (record { text = text; id = c.args.id }))) left
+    ∙ set-set (without text c.self.inside.names.items) place None (Some (record { text = text; id = c.args.id })) in
     rw (← c.self.view_is, ← c.folded-text.ensures) all)

@@ -49,7 +49,9 @@ returns-clause-keeps g c =
     let u = c.fill.new.self in
     let key = c.args.key in
     let at = c.make_fit-at.result in
-    let first = keeps_filled told pic s t u key at c.args.len a b c.law.ensures.shelf c.law-2.ensures.shelf c.make_fit-at.ensures.moved c.requires.len c.fill.ensures.shelf c.fill.ensures.outside (λ k x y e. c.law-2.ensures.free at c.args.len k x y c.make_fit-at.ensures.free e) c.fill.ensures.same in
+    let first = keeps_filled told pic s t u key at c.args.len a b c.law.ensures.shelf c.law-2.ensures.shelf c.make_fit-at.ensures.moved
+    c.requires.len c.fill.ensures.shelf c.fill.ensures.outside
+    (λ k x y e. c.law-2.ensures.free at c.args.len k x y c.make_fit-at.ensures.free e) c.fill.ensures.same in
     keeps_trans told pic s u c.settle.new.self a b b first (c.settle.ensures.keeps told pic b
     (λ w. read_there pic t u key at a b c.fill.ensures.shelf (λ j l. c.fill.ensures.read (inr w) c.in_default.is j l) (λ j. out_told t pic a b key j (c.fill.ensures.same w))))
 

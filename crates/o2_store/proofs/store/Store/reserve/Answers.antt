@@ -18,7 +18,10 @@ invariant_of-self-2 c =
     let l = within_at i.entries c.args.key (ap is_some slot) in
     let a = locked-set i.entries c.args.key (Some f) l in
     let x : locked_need i.entries c.args.key ≡ (if ltb 0 c.in-Some.old.attr.lock then rounded c.in-Some.old.size else 0) = ap (λ (o : Option Entry). if ltb 0 (entry_or o).attr.lock then rounded (entry_or o).size else 0) slot in
-    let y : locked_need (set i.entries c.args.key (Some f)) c.args.key ≡ (if ltb 0 c.in-Some.old.attr.lock then rounded c.in-Some.old.size else 0) = ap (λ (o : Option Entry). if ltb 0 (entry_or o).attr.lock then rounded (entry_or o).size else 0) (slot-set_same i.entries c.args.key (Some f) l) in
+    let y : locked_need (set i.entries c.args.key (Some f)) c.args.key
+    ≡ (if ltb 0 c.in-Some.old.attr.lock then rounded c.in-Some.old.size else 0) = ap
+    (λ (o : Option Entry). if ltb 0 (entry_or o).attr.lock then rounded (entry_or o).size else 0)
+    (slot-set_same i.entries c.args.key (Some f) l) in
     rw c.set.ensures (
       IsShelf-reserve s c.fit_blocks.new.swap c.args.key c.args.kept c.in-Some.old h slot c.fit_blocks.ensures.only (c.fit_blocks.ensures.enough c.if-not-fit_blocks.false) (rw (← c.self.view_is, e_is) at c.requires.kept) (rw (← c.self.view_is, e_is) at c.requires.written),
       omega (arith, a, x, y, c.self.invariant.1),

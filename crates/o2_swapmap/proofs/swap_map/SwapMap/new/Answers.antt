@@ -12,4 +12,6 @@ pub returns-clause-free : goal.returns-clause-free
 returns-clause-free c = fresh_free c.in_ok-all.all.items c.in_ok-piles.piles.items c.args.most c.args.blocks c.in_ok-piles.ensures
 
 pub returns-clause-all : goal.returns-clause-all
-returns-clause-all c = all_is c.in_ok-all.all.items c.in_ok-piles.piles.items (fresh_map c.in_ok-all.all.items c.in_ok-piles.piles.items c.args.most c.args.blocks c.in_ok-all.ensures.0 c.in_ok-all.ensures.1 c.in_ok-piles.ensures c.requires.small c.requires.few).piles ∙ c.in_ok-all.ensures.0
+returns-clause-all c = all_is c.in_ok-all.all.items c.in_ok-piles.piles.items
+    (fresh_map c.in_ok-all.all.items c.in_ok-piles.piles.items c.args.most c.args.blocks c.in_ok-all.ensures.0 c.in_ok-all.ensures.1
+    c.in_ok-piles.ensures c.requires.small c.requires.few).piles ∙ c.in_ok-all.ensures.0

@@ -12,4 +12,8 @@ returns c =
     let lp : length m.new.piles ≡ length c.self.inside.piles.items = m.auto.piles ∙ ap length w in
     let eb = with_items_is c.self.inside.blocks m.new.blocks (m.auto.blocks ∙ c.deref_mut.ensures.len) in
     let ep = with_items_is c.self.inside.piles m.new.piles (m.auto.piles ∙ c.deref_mut-2.ensures.len) in
-    record { moved = rw (← c.self.view_is, eb, ep) (step_is c.self.inside.blocks.items m.new.blocks c.self.inside.piles.items m.new.piles c.args.from c.args.to m.result lb lp c.self.invariant.piles m.ensures.sound (rw (v, w) at m.ensures.from) (rw (v, w) at m.ensures.to) (rw (v, w) at m.ensures.others)) }
+    record {
+      moved = rw (← c.self.view_is, eb, ep) (step_is c.self.inside.blocks.items m.new.blocks c.self.inside.piles.items m.new.piles
+          c.args.from c.args.to m.result lb lp c.self.invariant.piles m.ensures.sound (rw (v, w) at m.ensures.from)
+          (rw (v, w) at m.ensures.to) (rw (v, w) at m.ensures.others));
+    }
