@@ -13,7 +13,6 @@ use Rattle.o2_world.specs.Known.{Known, known_of}
 use Rattle.o2_world.specs.Rulings.{Ruling, dropped_indexes}
 use Rattle.o2_world.specs.Tied.{AreUsed}
 use Rattle.o2_world.specs.World.{Process, Reserve, Setting, World}
-use Rattle.o2_gate.specs.declared.gathering.SegmentArguments.{SegmentArguments}
 use Rattle.o2_gate.specs.declared.gathering.SegmentArguments.TheVariants.{Huge}
 use Rattle.o2_gate.specs.declared.huge.HugeArguments.{HugeArguments}
 use Rattle.o2_gate.specs.declared.huge.HugeArguments.TheVariants.{Realloc}
@@ -31,7 +30,7 @@ use Rattle.o2_segs.proofs.Limits.{limits_by}
 use Rattle.o2_huge.specs.Cuts.{MayLose}
 use Rattle.o2_huge.specs.Frames.{IsKnownBy, StopsFor}
 use Rattle.o2_huge.specs.Resized.{is_done}
-use Rattle.o2_calls.specs.Acts.{IsOver, cpu_behind, cpu_of, most_made}
+use Rattle.o2_calls.specs.Acts.{IsOver, cpu_behind, most_made}
 use Rattle.o2_calls.specs.HugeActs.{huge_behind, huge_ruling}
 use Rattle.o2_calls.specs.Stops.{LacksRun}
 use Rattle.o2_calls.proofs.RunsOver.{same_huge}
@@ -116,10 +115,3 @@ lacks_sized t k n segs part selector c keep (Done x) idles stops = tt
 lacks_sized t k n segs part selector c keep NoRoom idles stops = stops.no_room refl
 lacks_sized t k n segs part selector c keep SwapFull idles stops = stops.all_load refl
 lacks_sized t k n segs part selector c keep SwapFault idles stops = tt
-
--- of a call that changes none, come to what it may
-pub still_registers : (a : SegmentArguments) (k : Known) (n : ℕ) (c : Cpu) (r : Roomed) → cpu_of a k n c ≡ c → c ≡ cpu_behind a k n c r
-still_registers a k n c (Done x) same = sym same
-still_registers a k n c NoRoom same = refl
-still_registers a k n c SwapFull same = refl
-still_registers a k n c SwapFault same = refl

@@ -5,6 +5,7 @@ use Rattle.std.proofs.lemmas.Bool.{cond-false}
 use Rattle.o2_base.specs.Selectors.{selector_of}
 use Rattle.o2_image.specs.ImageList.{ImageList}
 use Rattle.o2_regions.specs.declared.held.Region.TheVariants.{Shared}
+use Rattle.o2_regions.specs.declared.answer.Answer.{Answer}
 use Rattle.o2_regions.specs.Maps.{Maps}
 use Rattle.o2_store.specs.Shelf.{Shelf}
 use Rattle.o2_isa.specs.View.{is_local}
@@ -30,7 +31,7 @@ use Rattle.o2_shared.specs.declared.names.Name.{Name as NameThere}
 use Rattle.o2_shared.specs.Shares.{StillHolds}
 use Rattle.o2_shared.specs.Texts.{AreOnce, AreTexts}
 use Rattle.o2_calls.specs.Acts.{IsOver, most_made}
-use Rattle.o2_calls.specs.SharedActs.{AreSpelled, Spells, shared_ruling}
+use Rattle.o2_calls.specs.SharedActs.{AreSpelled, IsSharedRow, Spells, shared_ruling}
 
 -- The rulings go by what is known.
 
@@ -57,10 +58,14 @@ module _ (m : Maps) (k l : Known) (same : KnowsAs m k l) where
   same_shared (Give selector to s o) n = ap (λ (z : Known). shared_ruling (Give selector to s o) z n) (but_taken m k l same)
   same_shared (Get selector) n = ap (λ (z : Known). shared_ruling (Get selector) z n) (but_taken m k l same)
 
--- What is so of the ruling over the machine is so of that over the world.
-module _ (sh : Shelf) (m : Maps) (images : ImageList) (block : ℕ → List ℕ) (p : Parts) (s : Setting) (w : World) (over : IsOver sh m images block p s w) (n : ℕ) where
-  pub rule_by : (P : Ruling → Type 0) (a : SharedArguments) (r : Ruling) → r ≡ shared_ruling a (known_in p (others_of s w)) n → P r → P (shared_ruling a (known_of s w) n)
-  rule_by P a r e h = subst P (e ∙ sym (same_shared p.maps (known_of s w) (known_in p (others_of s w)) (known_is p s w over.lawful over.set over.stands) a n)) h
+-- The row of the ruling over the machine is that of the ruling over the world.
+module _ (sh : Shelf) (m : Maps) (images : ImageList) (block : ℕ → List ℕ) (p : Parts) (s : Setting) (w : World) (over : IsOver sh m images block p s w) (pid : ℕ) where
+  pub shared_row : {a b : SharedArguments} {r : Ruling} {t : Shelf} {n : Maps} {names : List (Option NameThere)} {x : Answer}
+      → a ≡ b → r ≡ shared_ruling b (known_in p (others_of s w)) pid → IsSharedRow r p w pid t n names x → IsSharedRow (shared_ruling a (known_of s w) pid) p w pid t n names x
+  shared_row {b} {t} {n} {names} {x} is same row =
+      let known = same_shared p.maps (known_of s w) (known_in p (others_of s w)) (known_is p s w over.lawful over.set over.stands) b pid in
+      subst (λ (z : SharedArguments). IsSharedRow (shared_ruling z (known_of s w) pid) p w pid t n names x) (sym is)
+      (subst (λ (q : Ruling). IsSharedRow q p w pid t n names x) (same ∙ sym known) row)
 
   pub matches_now : Matches p w
   matches_now = matched_by p w.processes w.names w.next_name w.reserved over.stands

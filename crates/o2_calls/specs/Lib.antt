@@ -6,3 +6,4 @@ pub mod SharedActs
 pub mod HugeActs
 pub mod Noted
 pub mod RunRows
+pub mod CallRows

@@ -1,19 +1,23 @@
 -- What a call by which processes share segments comes to in the world that a machine stands for.
-use Rattle.std.specs.Prelude.{◌≡◌, ℕ, Bool, List, Option, length}
+use Rattle.std.specs.Prelude.{◌≡◌, ℕ, Bool, List, Option, Some, length}
+use Rattle.o2_regions.specs.declared.answer.Answer.{Answer}
 use Rattle.o2_regions.specs.Maps.{Maps}
 use Rattle.o2_store.specs.Shelf.{Shelf}
+use Rattle.o2_world.specs.Changes.{with_all}
+use Rattle.o2_world.specs.Holders.{process_at}
 use Rattle.o2_world.specs.Known.{Known, text_name}
 use Rattle.o2_world.specs.Rulings.{Ruling}
 use Rattle.o2_world.specs.SharedNames.{name_by}
 use Rattle.o2_world.specs.SharedRulings.{getting, giving, naming, sharing}
-use Rattle.o2_world.specs.World.{World}
+use Rattle.o2_world.specs.World.{Process, World}
 use Rattle.o2_gate.specs.declared.gathering.SegmentArguments.{SegmentArguments}
 use Rattle.o2_gate.specs.declared.gathering.SegmentArguments.TheVariants.{Alloc, Realloc, Free, Size, Lock, Unlock, Alias, Shared, Huge}
 use Rattle.o2_gate.specs.declared.sharing.SharedArguments.{SharedArguments}
 use Rattle.o2_gate.specs.declared.sharing.SharedArguments.TheVariants.{Name, Share, Give, Get}
 use Rattle.o2_gate.specs.SharedReplies.{text_of}
 use Rattle.o2_stands.specs.Parts.{Parts}
-use Rattle.o2_stands.specs.Stands.{AreMarked}
+use Rattle.o2_stands.specs.Stands.{AreMarked, Matches}
+use Rattle.o2_segs.specs.Answers.{Answers}
 use Rattle.o2_shared.specs.declared.names.Name.{Name as NameThere}
 use Rattle.o2_shared.specs.Texts.{AreOnce, AreTexts}
 
@@ -36,6 +40,13 @@ pub record Spells (s : Shelf) (m : Maps) (names : List (Option NameThere)) (ends
 pub record AreSpelled (s : Shelf) (names : List (Option NameThere)) (w : World) : Type 0 where
   pub texts : AreTexts s names (text_name w.texts)
   pub once : AreOnce w.texts
+
+-- The call is the row of this ruling: what it answers is the row's error and value, and store, maps and names behind it match the world with
+-- its changes.
+pub record IsSharedRow (q : Ruling) (p : Parts) (w : World) (pid : ℕ) (t : Shelf) (n : Maps) (names : List (Option NameThere)) (r : Answer) : Type 0 where
+  pub answer : Answers q r
+  pub matches : (x : Process) → process_at w.processes pid ≡ Some x → Matches (record p { shelf = t; maps = n }) (with_all w q.changes)
+  pub spells : AreSpelled t names (with_all w q.changes)
 
 -- what a call leaves of the names that are kept: all of them, but for one by which processes share segments
 abbrev pub LeavesSpelled : SegmentArguments → Shelf → (old new : List (Option NameThere)) → World → Type 0

@@ -1,5 +1,5 @@
 // A call on segments over a store and the tables of what processes hold.
-ghost use Rattle.std.specs.Prelude.{◌≡◌, ℕ, ◌+◌, ◌-◌, ◌<◌, ◌^◌, IsSome, IsTrue, Some, true, ◌⊎◌};
+ghost use Rattle.std.specs.Prelude.{◌≡◌, ◌⊎◌, ℕ, ◌+◌, ◌<◌, ◌^◌, IsSome, true};
 ghost use Rattle.o2_entries.specs.Tables.{slot_at};
 ghost use Rattle.o2_regions.specs.Maps.{IsProcess};
 ghost use Rattle.o2_store.specs.Needs.{named_in};
@@ -8,23 +8,17 @@ ghost use Rattle.o2_store.specs.Shelf.{HasAll, place_of};
 ghost use Rattle.o2_store.specs.Frames.{IsBacked, KeepsDevice};
 ghost use Rattle.o2_changes.specs.Frames.{KeepsOrderFor};
 ghost use Rattle.o2_segs.specs.Callers.{IsCaller};
-ghost use Rattle.o2_stands.specs.Moves.{moved};
 ghost use Rattle.o2_stands.specs.Parts.{Parts};
-ghost use Rattle.o2_stands.specs.Stands.{Matches};
-ghost use Rattle.o2_world.specs.Changes.{with_all};
-ghost use Rattle.o2_world.specs.Holders.{process_at};
-ghost use Rattle.o2_world.specs.Known.{known_of};
-ghost use Rattle.o2_world.specs.Tied.{IsTied};
-ghost use Rattle.o2_world.specs.World.{Process, Setting, World};
-ghost use Rattle.o2_segs.specs.Answers.{AnswersRoomed, changes_roomed};
+ghost use Rattle.o2_world.specs.World.{Setting, World};
 ghost use Rattle.o2_segs.specs.Limits.{KeepsLimitsBy, made_in};
 ghost use Rattle.o2_regions.specs.Lives.{lives};
 ghost use Rattle.o2_shared.specs.Shares.{AreFew, ShareOne};
 ghost use Rattle.o2_shared.specs.Texts.{AreInPlace};
-ghost use Rattle.o2_calls.specs.SharedActs.{LeavesSpelled, Spells};
+ghost use Rattle.o2_calls.specs.SharedActs.{Spells};
 ghost use Rattle.o2_segs.specs.Made.{IsStop};
-ghost use Rattle.o2_calls.specs.Acts.{IsOver, MayStop, cpu_behind, ruling_of, most_made};
-ghost use Rattle.o2_calls.specs.Stops.{IsGivable, IsShort, LacksRoom, LacksRun, LacksRunMemory, LacksSwap, LeavesEntries, LeavesHolds, LeavesRunHolds};
+ghost use Rattle.o2_calls.specs.Acts.{IsOver, MayStop, most_made};
+ghost use Rattle.o2_calls.specs.CallRows.{IsCallRow};
+ghost use Rattle.o2_calls.specs.Stops.{IsGivable, IsShort, LacksRoom, LacksSwap, LeavesEntries, LeavesHolds};
 ghost use Rattle.o2_store.specs.Idle.{IsIdle, NoneTaken};
 
 use crate::runs::act_on_run;
@@ -69,23 +63,8 @@ pub fn act<S: SwapDevice>(
     ensures row { (p : Parts) (s : Setting) (w : World)
         → IsOver store.old regions.old images.now (S.block swap.old) p s w
         → Spells store.old regions.old names.old ends.now p w
-        → AnswersRoomed (ruling_of arguments (known_of s w) pid cpu.old) result }
-    ensures registers { (p : Parts) (s : Setting) (w : World)
-        → IsOver store.old regions.old images.now (S.block swap.old) p s w
-        → Spells store.old regions.old names.old ends.now p w
-        → cpu.new ≡ cpu_behind arguments (known_of s w) pid cpu.old result }
-    ensures matches { (p : Parts) (s : Setting) (w : World) (x : Process)
-        → IsOver store.old regions.old images.now (S.block swap.old) p s w
-        → Spells store.old regions.old names.old ends.now p w
-        → IsTrue (S.told swap.new)
-        → process_at w.processes pid ≡ Some x → IsTied w
-        → Matches (moved p store.new regions.new (S.block swap.new))
-        (with_all w (changes_roomed (ruling_of arguments (known_of s w) pid cpu.old) result)) }
-    ensures spells { (p : Parts) (s : Setting) (w : World)
-        → IsOver store.old regions.old images.now (S.block swap.old) p s w
-        → Spells store.old regions.old names.old ends.now p w
-        → LeavesSpelled arguments store.new names.old names.new
-        (with_all w (ruling_of arguments (known_of s w) pid cpu.old).changes) }
+        → IsCallRow arguments p s w pid store.old store.new regions.old regions.new keep.now
+        (S.told swap.new) (S.block swap.new) cpu.old cpu.new names.old names.new result (IsIdle store.new swap.old swap.new) }
     ensures stops { IsStop result → MayStop arguments }
 
     // What is to be kept stays in memory, and what the call writes through stays held; why it stops.
@@ -98,20 +77,6 @@ pub fn act<S: SwapDevice>(
         → LacksRoom arguments store.old regions.old pid keep.now }
     ensures swap_full { result ≡ Roomed.SwapFull
         → LacksSwap arguments store.old regions.old pid }
-    // The same of a call that sizes a run, and what it leaves of holds, by the world.
-    ensures run_holds { (p : Parts) (s : Setting) (w : World)
-        → IsOver store.old regions.old images.now (S.block swap.old) p s w
-        → Spells store.old regions.old names.old ends.now p w
-        → LeavesRunHolds arguments regions.old regions.new (known_of s w) pid cpu.old }
-    ensures run_lacks { (p : Parts) (s : Setting) (w : World)
-        → IsOver store.old regions.old images.now (S.block swap.old) p s w
-        → Spells store.old regions.old names.old ends.now p w
-        → LacksRun arguments store.old (known_of s w) pid cpu.old keep.now result }
-    ensures run_short { (p : Parts) (s : Setting) (w : World)
-        → IsOver store.old regions.old images.now (S.block swap.old) p s w
-        → Spells store.old regions.old names.old ends.now p w
-        → NoneTaken store.old.swap → IsIdle store.new swap.old swap.new
-        ⊎ LacksRunMemory arguments store.old (known_of s w) pid cpu.old }
 
     // What the calls of store, service and bus ask for goes on to hold.
     ensures processes { regions.new.processes ≡ regions.old.processes }

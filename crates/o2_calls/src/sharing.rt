@@ -1,23 +1,19 @@
 // A call by which processes share segments, over a store and the tables of what processes hold.
-ghost use Rattle.std.specs.Prelude.{◌≡◌, ℕ, ◌-◌, ◌<◌, ◌≤◌, ◌^◌, IsSome, List, Some, true};
+ghost use Rattle.std.specs.Prelude.{◌≡◌, ℕ, ◌-◌, ◌<◌, ◌≤◌, ◌^◌, IsSome, List, true};
 ghost use Rattle.o2_image.specs.ImageList.{ImageList};
 ghost use Rattle.o2_regions.specs.Lives.{lives};
 ghost use Rattle.o2_regions.specs.Maps.{IsProcess};
 ghost use Rattle.o2_store.specs.Shelf.{place_of};
 ghost use Rattle.o2_changes.specs.Frames.{KeepsOrder};
 ghost use Rattle.o2_segs.specs.Callers.{IsCaller};
-ghost use Rattle.o2_stands.specs.Stands.{Matches};
 ghost use Rattle.o2_stands.specs.Parts.{Parts};
-ghost use Rattle.o2_world.specs.Changes.{with_all};
-ghost use Rattle.o2_world.specs.Holders.{process_at};
 ghost use Rattle.o2_world.specs.Known.{known_of};
-ghost use Rattle.o2_world.specs.World.{Process, Setting, World};
-ghost use Rattle.o2_segs.specs.Answers.{Answers};
+ghost use Rattle.o2_world.specs.World.{Setting, World};
 ghost use Rattle.o2_segs.specs.Limits.{KeepsEntries, KeepsLimitsBy};
 ghost use Rattle.o2_shared.specs.Shares.{AreFew, ShareOne, StillHolds};
 ghost use Rattle.o2_shared.specs.Texts.{AreInPlace};
 ghost use Rattle.o2_calls.specs.Acts.{IsOver};
-ghost use Rattle.o2_calls.specs.SharedActs.{AreSpelled, Spells, shared_ruling};
+ghost use Rattle.o2_calls.specs.SharedActs.{IsSharedRow, Spells, shared_ruling};
 
 use o2_gate::SharedArguments;
 use o2_regions::{Answer, Ends, Regions};
@@ -45,15 +41,7 @@ pub fn share(
     // The row of the call in the world for which the machine stands.
     ensures row { (images : ImageList) (block : ℕ → List ℕ) (p : Parts) (s : Setting) (w : World)
         → IsOver store.old regions.old images block p s w → Spells store.old regions.old names.old ends.now p w
-        → Answers (shared_ruling arguments.now (known_of s w) pid) result }
-    ensures matches { (images : ImageList) (block : ℕ → List ℕ) (p : Parts) (s : Setting) (w : World) (x : Process)
-        → IsOver store.old regions.old images block p s w → Spells store.old regions.old names.old ends.now p w
-        → process_at w.processes pid ≡ Some x
-        → Matches (record p { shelf = store.new; maps = regions.new })
-        (with_all w (shared_ruling arguments.now (known_of s w) pid).changes) }
-    ensures spells { (images : ImageList) (block : ℕ → List ℕ) (p : Parts) (s : Setting) (w : World)
-        → IsOver store.old regions.old images block p s w → Spells store.old regions.old names.old ends.now p w
-        → AreSpelled store.new names.new (with_all w (shared_ruling arguments.now (known_of s w) pid).changes) }
+        → IsSharedRow (shared_ruling arguments.now (known_of s w) pid) p w pid store.new regions.new names.new result }
 
     // What the calls of store, service and bus ask for goes on to hold, and so does what this call asks for.
     ensures word { result.value ≤ 65535 }

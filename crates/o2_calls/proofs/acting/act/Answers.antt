@@ -1,118 +1,138 @@
 -- Each call is its row.
-use Rattle.std.proofs.Common.{◌⊎◌, inl, inr, ℕ, Option, IsSome, ap, refl, sym, subst, ◌≡◌, arith}
+use Rattle.std.proofs.Common.{inl, inr, ℕ, Option, IsSome, ap, refl, sym, subst, arith}
 use Rattle.o2_regions.specs.declared.answer.Roomed.TheVariants.{Done}
 use Rattle.o2_regions.specs.Maps.{Maps}
-use Rattle.o2_gate.specs.declared.gathering.SegmentArguments.TheVariants.{Alloc, Realloc, Free, Size, Lock, Unlock, Alias, Shared}
 use Rattle.o2_stands.specs.Knows.{known_in, others_of}
-use Rattle.o2_stands.proofs.Matching.{matched_by}
 use Rattle.o2_calls.proofs.Givable.{alias_givable, alloc_givable, no_others, some_parts}
-use Rattle.o2_calls.proofs.Overs.{behind_by, cpu_by, loses, maps_only, none_next, row_by, sized_only, store_only, unmoved}
+use Rattle.o2_calls.proofs.Overs.{done_row, loses, none_next, roomed_row, store_only, unchanged, unmoved}
 use Rattle.o2_store.specs.Shelf.{Shelf, place_of}
 use Rattle.o2_changes.specs.Holding.{KeepsHolds}
 use Rattle.o2_changes.proofs.KeepingHolds.{holds_refl}
 use Rattle.o2_gate.specs.declared.gathering.SegmentArguments.{SegmentArguments}
-use Rattle.o2_stands.specs.Moves.{moved}
-use Rattle.o2_stands.specs.Stands.{Matches}
 use Rattle.o2_world.specs.Changes.{with_all}
 use Rattle.o2_world.specs.Known.{known_of}
-use Rattle.o2_world.specs.Rulings.{aliasing, freeing, unlocking}
-use Rattle.o2_segs.specs.Answers.{Answers, AnswersRoomed, changes_roomed}
-use Rattle.o2_calls.specs.Acts.{MayStop, cpu_behind, cpu_of, ruling_of}
-use Rattle.o2_calls.specs.Stops.{IsGivable, IsShort, LacksRoom, LacksRun, LacksRunMemory, LacksSwap, LeavesEntries, LeavesHolds, LeavesRunHolds}
+use Rattle.o2_world.specs.Rulings.{aliasing, unlocking}
+use Rattle.o2_calls.specs.Acts.{MayStop}
+use Rattle.o2_calls.specs.CallRows.{IsCallRow}
+use Rattle.o2_calls.specs.Stops.{IsGivable, IsShort, LacksRoom, LacksSwap, LeavesEntries, LeavesHolds}
+use Rattle.o2_calls.proofs.Rulings.{sizing_still}
 use Rattle.o2_segs.proofs.Limits.{limits_more, limits_same, limits_in, entries_same}
 use Rattle.o2_shared.proofs.Staying.{stay_in_place}
-use Rattle.o2_calls.specs.SharedActs.{LeavesSpelled}
-use Rattle.o2_calls.proofs.SharedOver.{limits_by_made, limits_to}
+use Rattle.o2_calls.specs.SharedActs.{shared_ruling}
+use Rattle.o2_calls.proofs.SharedOver.{limits_by_made, limits_to, maps_now}
 use Rattle.o2_store.specs.Idle.{IsIdle, NoneTaken}
-use Rattle.o2_calls.proofs.RunActs.{run_registers, still_registers}
+use Rattle.o2_calls.proofs.RunActs.{run_registers}
 use Rattle.o2_store.proofs.Framing.{device_refl}
 use Rattle.o2_changes.proofs.Framing.{for_order, maps_as, order_as, order_refl}
 use Rattle.o2_calls.proofs.acting.act.Goals as goal
 
 pub returns-in-Alloc-clause-row : goal.returns-in-Alloc-clause-row
 returns-in-Alloc-clause-row g c = λ p s w over spells.
-    subst (λ (a : SegmentArguments). AnswersRoomed (ruling_of a (known_of s w) c.args.pid c.args.cpu.now) c.alloc_seg.result) (sym c.in-Alloc.is)
-    (row_by _ _ _ _ p s w over c.args.pid c.requires.caller.process (Alloc c.in-Alloc.size 0 0 c.in-Alloc.flags) c.args.cpu.now c.alloc_seg.result (c.alloc_seg.ensures.answer p (others_of s w) over.store over.regions))
-
-pub returns-in-Alloc-clause-matches : goal.returns-in-Alloc-clause-matches
-returns-in-Alloc-clause-matches g c = λ p s w x over spells told at tied.
-    subst (λ (a : SegmentArguments). Matches (moved p c.alloc_seg.new.store c.alloc_seg.new.regions (g.S.SwapDevice.block c.alloc_seg.new.swap)) (with_all w (changes_roomed (ruling_of a (known_of s w) c.args.pid c.args.cpu.now) c.alloc_seg.result))) (sym c.in-Alloc.is)
-    (behind_by _ _ _ _ p s w over c.args.pid c.requires.caller.process (Alloc c.in-Alloc.size 0 0 c.in-Alloc.flags) c.args.cpu.now c.alloc_seg.result _
-    (c.alloc_seg.ensures.matches p (others_of s w) w x over.store over.regions over.pictures over.blocks told at (none_next w tied) (matched_by p w.processes w.names w.next_name w.reserved over.stands)))
+    (let q = c.alloc_seg.ensures in
+    let o = others_of s w in
+    roomed_row _ _ _ _ p s w over c.args.pid c.requires.caller.process c.in-Alloc.is refl refl tt tt tt (q.answer p o over.store over.regions)
+    (λ x told at tied here. q.matches p o w x over.store over.regions over.pictures over.blocks told at (none_next w tied) here))
 
 pub returns-in-Realloc-clause-row : goal.returns-in-Realloc-clause-row
 returns-in-Realloc-clause-row g c = λ p s w over spells.
-    subst (λ (a : SegmentArguments). AnswersRoomed (ruling_of a (known_of s w) c.args.pid c.args.cpu.now) c.realloc_seg.result) (sym c.in-Realloc.is)
-    (row_by _ _ _ _ p s w over c.args.pid c.requires.caller.process (Realloc c.in-Realloc.size c.in-Realloc.selector) c.args.cpu.now c.realloc_seg.result (c.realloc_seg.ensures.answer p (others_of s w) over.store over.regions))
-
-pub returns-in-Realloc-clause-matches : goal.returns-in-Realloc-clause-matches
-returns-in-Realloc-clause-matches g c = λ p s w x over spells told at tied.
-    subst (λ (a : SegmentArguments). Matches (moved p c.realloc_seg.new.store c.realloc_seg.new.regions (g.S.SwapDevice.block c.realloc_seg.new.swap)) (with_all w (changes_roomed (ruling_of a (known_of s w) c.args.pid c.args.cpu.now) c.realloc_seg.result))) (sym c.in-Realloc.is)
-    (behind_by _ _ _ _ p s w over c.args.pid c.requires.caller.process (Realloc c.in-Realloc.size c.in-Realloc.selector) c.args.cpu.now c.realloc_seg.result _
-    (c.realloc_seg.ensures.matches p (others_of s w) w over.store over.regions over.pictures over.blocks told (matched_by p w.processes w.names w.next_name w.reserved over.stands)))
+    (let q = c.realloc_seg.ensures in
+    let o = others_of s w in
+    roomed_row _ _ _ _ p s w over c.args.pid c.requires.caller.process c.in-Realloc.is refl refl tt tt tt (q.answer p o over.store over.regions)
+    (λ x told at tied here. q.matches p o w over.store over.regions over.pictures over.blocks told here))
 
 pub returns-in-Free-clause-row : goal.returns-in-Free-clause-row
 returns-in-Free-clause-row g c = λ p s w over spells.
-    subst (λ (a : SegmentArguments). Answers (ruling_of a (known_of s w) c.args.pid c.args.cpu.now) c.free_seg.result) (sym c.in-Free.is)
-    (row_by _ _ _ _ p s w over c.args.pid c.requires.caller.process (Free c.in-Free.selector) c.args.cpu.now (Done c.free_seg.result) (c.free_seg.ensures.answer p (others_of s w) over.store over.regions))
-
-pub returns-in-Free-clause-registers : goal.returns-in-Free-clause-registers
-returns-in-Free-clause-registers g c = λ p s w over spells.
-    subst (λ (a : SegmentArguments). c.free_seg.new.cpu ≡ cpu_behind a (known_of s w) c.args.pid c.args.cpu.now (Done c.free_seg.result)) (sym c.in-Free.is)
-    (cpu_by _ _ _ _ p s w over c.args.pid c.requires.caller.process (Free c.in-Free.selector) c.args.cpu.now c.free_seg.new.cpu (c.free_seg.ensures.registers p (others_of s w) over.store over.regions))
-
-pub returns-in-Free-clause-matches : goal.returns-in-Free-clause-matches
-returns-in-Free-clause-matches g c = λ p s w x over spells told at tied.
-    subst (λ (a : SegmentArguments). Matches (moved p c.free_seg.new.store c.free_seg.new.regions (g.S.SwapDevice.block c.args.swap.now)) (with_all w (ruling_of a (known_of s w) c.args.pid c.args.cpu.now).changes)) (sym c.in-Free.is)
-    (behind_by _ _ _ _ p s w over c.args.pid c.requires.caller.process (Free c.in-Free.selector) c.args.cpu.now (Done c.free_seg.result) _
-    (unmoved _ _ _ _ p s w over c.args.pid c.requires.caller.process _ _ (with_all w (freeing (known_in p (others_of s w)) c.args.pid c.in-Free.selector c.args.cpu.now).changes)
-    (c.free_seg.ensures.matches p (others_of s w) w x over.store over.regions at (loses _ _ _ _ p s w over c.args.pid c.requires.caller.process c.in-Free.selector c.args.cpu.now) (matched_by p w.processes w.names w.next_name w.reserved over.stands))))
+    (let q = c.free_seg.ensures in
+    let o = others_of s w in
+    let pid = c.args.pid in
+    let process = c.requires.caller.process in
+    done_row _ _ _ _ p s w over pid process c.in-Free.is refl tt tt tt (q.answer p o over.store over.regions) (q.registers p o over.store over.regions)
+    (λ x at here. q.matches p o w x over.store over.regions at (loses _ _ _ _ p s w over pid process c.in-Free.selector c.args.cpu.now) here))
 
 pub returns-in-Size-clause-row : goal.returns-in-Size-clause-row
 returns-in-Size-clause-row g c = λ p s w over spells.
-    subst (λ (a : SegmentArguments). Answers (ruling_of a (known_of s w) c.args.pid c.args.cpu.now) c.size_seg.result) (sym c.in-Size.is)
-    (row_by _ _ _ _ p s w over c.args.pid c.requires.caller.process (Size c.in-Size.selector 0 0) c.args.cpu.now (Done c.size_seg.result) (c.size_seg.ensures.answer p (others_of s w) over.store over.regions))
-
-pub returns-in-Size-clause-matches : goal.returns-in-Size-clause-matches
-returns-in-Size-clause-matches g c = λ p s w x over spells told at tied.
-    subst (λ (a : SegmentArguments). Matches (moved p c.size_seg.new.store c.size_seg.new.regions (g.S.SwapDevice.block c.args.swap.now)) (with_all w (ruling_of a (known_of s w) c.args.pid c.args.cpu.now).changes)) (sym c.in-Size.is)
-    (behind_by _ _ _ _ p s w over c.args.pid c.requires.caller.process (Size c.in-Size.selector 0 0) c.args.cpu.now (Done c.size_seg.result) _
-    (sized_only _ _ _ _ p s w over c.args.pid c.requires.caller.process c.in-Size.selector _ _ c.size_seg.ensures.store c.size_seg.ensures.regions))
+    (let q = c.size_seg.ensures in
+    let o = others_of s w in
+    let pid = c.args.pid in
+    let process = c.requires.caller.process in
+    done_row _ _ _ _ p s w over pid process c.in-Size.is refl tt tt tt (q.answer p o over.store over.regions) refl
+    (λ x at here. unchanged _ _ _ _ p s w over pid process _ _ _ q.store q.regions (sizing_still (known_in p o) pid c.in-Size.selector)))
 
 pub returns-in-Lock-clause-row : goal.returns-in-Lock-clause-row
 returns-in-Lock-clause-row g c = λ p s w over spells.
-    subst (λ (a : SegmentArguments). AnswersRoomed (ruling_of a (known_of s w) c.args.pid c.args.cpu.now) c.lock_seg.result) (sym c.in-Lock.is)
-    (row_by _ _ _ _ p s w over c.args.pid c.requires.caller.process (Lock c.in-Lock.selector) c.args.cpu.now c.lock_seg.result (c.lock_seg.ensures.answer p (others_of s w) over.store over.regions))
-
-pub returns-in-Lock-clause-matches : goal.returns-in-Lock-clause-matches
-returns-in-Lock-clause-matches g c = λ p s w x over spells told at tied.
-    subst (λ (a : SegmentArguments). Matches (moved p c.lock_seg.new.store c.lock_seg.new.regions (g.S.SwapDevice.block c.lock_seg.new.swap)) (with_all w (changes_roomed (ruling_of a (known_of s w) c.args.pid c.args.cpu.now) c.lock_seg.result))) (sym c.in-Lock.is)
-    (behind_by _ _ _ _ p s w over c.args.pid c.requires.caller.process (Lock c.in-Lock.selector) c.args.cpu.now c.lock_seg.result _
-    (c.lock_seg.ensures.matches p (others_of s w) w over.store over.regions over.pictures over.blocks told (matched_by p w.processes w.names w.next_name w.reserved over.stands)))
+    (let q = c.lock_seg.ensures in
+    let o = others_of s w in
+    roomed_row _ _ _ _ p s w over c.args.pid c.requires.caller.process c.in-Lock.is refl refl tt tt tt (q.answer p o over.store over.regions)
+    (λ x told at tied here. q.matches p o w over.store over.regions over.pictures over.blocks told here))
 
 pub returns-in-Unlock-clause-row : goal.returns-in-Unlock-clause-row
 returns-in-Unlock-clause-row g c = λ p s w over spells.
-    subst (λ (a : SegmentArguments). Answers (ruling_of a (known_of s w) c.args.pid c.args.cpu.now) c.unlock_seg.result) (sym c.in-Unlock.is)
-    (row_by _ _ _ _ p s w over c.args.pid c.requires.caller.process (Unlock c.in-Unlock.selector) c.args.cpu.now (Done c.unlock_seg.result) (c.unlock_seg.ensures.answer p (others_of s w) over.store over.regions))
-
-pub returns-in-Unlock-clause-matches : goal.returns-in-Unlock-clause-matches
-returns-in-Unlock-clause-matches g c = λ p s w x over spells told at tied.
-    subst (λ (a : SegmentArguments). Matches (moved p c.unlock_seg.new.store c.unlock_seg.new.regions (g.S.SwapDevice.block c.args.swap.now)) (with_all w (ruling_of a (known_of s w) c.args.pid c.args.cpu.now).changes)) (sym c.in-Unlock.is)
-    (behind_by _ _ _ _ p s w over c.args.pid c.requires.caller.process (Unlock c.in-Unlock.selector) c.args.cpu.now (Done c.unlock_seg.result) _
-    (store_only _ _ _ _ p s w over c.args.pid c.requires.caller.process _ _ (with_all w (unlocking (known_in p (others_of s w)) c.args.pid c.in-Unlock.selector).changes) c.unlock_seg.ensures.regions
-    (c.unlock_seg.ensures.matches p (others_of s w) w over.store over.regions (matched_by p w.processes w.names w.next_name w.reserved over.stands))))
+    (let q = c.unlock_seg.ensures in
+    let o = others_of s w in
+    let pid = c.args.pid in
+    let process = c.requires.caller.process in
+    let made = with_all w (unlocking (known_in p o) pid c.in-Unlock.selector).changes in
+    done_row _ _ _ _ p s w over pid process c.in-Unlock.is refl tt tt tt (q.answer p o over.store over.regions) refl
+    (λ x at here. store_only _ _ _ _ p s w over pid process _ _ made q.regions (q.matches p o w over.store over.regions here)))
 
 pub returns-in-Alias-clause-row : goal.returns-in-Alias-clause-row
 returns-in-Alias-clause-row g c = λ p s w over spells.
-    subst (λ (a : SegmentArguments). Answers (ruling_of a (known_of s w) c.args.pid c.args.cpu.now) c.create_cs_alias.result) (sym c.in-Alias.is)
-    (row_by _ _ _ _ p s w over c.args.pid c.requires.caller.process (Alias c.in-Alias.selector 0 0) c.args.cpu.now (Done c.create_cs_alias.result) (c.create_cs_alias.ensures.answer p (others_of s w) over.store over.regions))
+    (let q = c.create_cs_alias.ensures in
+    let o = others_of s w in
+    let pid = c.args.pid in
+    let process = c.requires.caller.process in
+    let made = with_all w (aliasing (known_in p o) pid c.in-Alias.selector).changes in
+    done_row _ _ _ _ p s w over pid process c.in-Alias.is refl tt tt tt (q.answer p o over.store over.regions) refl
+    (λ x at here. maps_now p _ _ _ made over.store q.store (q.matches p o w x over.store over.regions at here)))
 
-pub returns-in-Alias-clause-matches : goal.returns-in-Alias-clause-matches
-returns-in-Alias-clause-matches g c = λ p s w x over spells told at tied.
-    subst (λ (a : SegmentArguments). Matches (moved p c.create_cs_alias.new.store c.create_cs_alias.new.regions (g.S.SwapDevice.block c.args.swap.now)) (with_all w (ruling_of a (known_of s w) c.args.pid c.args.cpu.now).changes)) (sym c.in-Alias.is)
-    (behind_by _ _ _ _ p s w over c.args.pid c.requires.caller.process (Alias c.in-Alias.selector 0 0) c.args.cpu.now (Done c.create_cs_alias.result) _
-    (maps_only _ _ _ _ p s w over c.args.pid c.requires.caller.process _ _ (with_all w (aliasing (known_in p (others_of s w)) c.args.pid c.in-Alias.selector).changes) c.create_cs_alias.ensures.store
-    (c.create_cs_alias.ensures.matches p (others_of s w) w x over.store over.regions at (matched_by p w.processes w.names w.next_name w.reserved over.stands))))
+pub returns-in-Shared-clause-row : goal.returns-in-Shared-clause-row
+returns-in-Shared-clause-row g c = λ p s w over spells.
+    (let q = c.share in
+    let pid = c.args.pid in
+    let cpu = c.args.cpu.now in
+    let block = g.S.SwapDevice.block c.args.swap.now in
+    let told = g.S.SwapDevice.told c.args.swap.now in
+    let old = c.args.store.now in
+    let m = c.args.regions.now in
+    let names = c.args.names.now in
+    let t = q.new.store in
+    let n = q.new.regions in
+    let row = q.ensures.row c.args.images.now block p s w over spells in
+    let idle = IsIdle t c.args.swap.now c.args.swap.now in
+    let made = with_all w (shared_ruling c.in-Shared.shared (known_of s w) pid).changes in
+    subst (λ (a : SegmentArguments). IsCallRow a p s w pid old t m n c.args.keep.now told block cpu cpu names q.new.names (Done q.result) idle) (sym c.in-Shared.is) (record {
+      answer = row.answer;
+      registers = refl;
+      matches = λ x read at tied. unmoved _ _ _ _ p s w over pid c.requires.caller.process t n made (row.matches x at);
+      spells = row.spells;
+      holds = tt;
+      lacks = tt;
+      short = λ none. inr tt;
+    }))
+
+pub returns-in-Huge-clause-row : goal.returns-in-Huge-clause-row
+returns-in-Huge-clause-row g c = λ p s w over spells.
+    (let q = c.act_on_run in
+    let pid = c.args.pid in
+    let cpu = c.args.cpu.now in
+    let swap = q.new.swap in
+    let block = g.S.SwapDevice.block swap in
+    let told = g.S.SwapDevice.told swap in
+    let old = c.args.store.now in
+    let m = c.args.regions.now in
+    let names = c.args.names.now in
+    let t = q.new.store in
+    let n = q.new.regions in
+    let row = q.ensures.row p s w over spells.processes in
+    subst (λ (a : SegmentArguments). IsCallRow a p s w pid old t m n c.args.keep.now told block cpu q.new.cpu names names q.result (IsIdle t c.args.swap.now swap)) (sym c.in-Huge.is) (record {
+      answer = row.answer;
+      registers = run_registers c.in-Huge.huge (known_of s w) pid cpu q.new.cpu q.result row.registers;
+      matches = λ x read at tied. row.world x read at;
+      spells = refl;
+      holds = row.holds;
+      lacks = row.lacks;
+      short = row.short;
+    }))
 
 pub returns-in-Alloc-clause-kept : goal.returns-in-Alloc-clause-kept
 returns-in-Alloc-clause-kept g c = λ k named live here. c.alloc_seg.ensures.kept k named here
@@ -240,20 +260,11 @@ returns-in-Alloc-clause-limits g c = limits_by_made c.args.store.now c.alloc_seg
 pub returns-in-Alloc-clause-places : goal.returns-in-Alloc-clause-places
 returns-in-Alloc-clause-places g c = (let k = c.alloc_seg.ensures.limits in stay_in_place c.args.store.now c.alloc_seg.new.store c.args.regions.now c.alloc_seg.new.regions c.args.names.now c.requires.places k.shares k.grows)
 
-pub returns-in-Alloc-clause-spells : goal.returns-in-Alloc-clause-spells
-returns-in-Alloc-clause-spells g c = λ p s w over spells. subst (λ (a : SegmentArguments). LeavesSpelled a c.alloc_seg.new.store c.args.names.now c.args.names.now (with_all w (ruling_of a (known_of s w) c.args.pid c.args.cpu.now).changes)) (sym c.in-Alloc.is) refl
-
 pub returns-in-Realloc-clause-places : goal.returns-in-Realloc-clause-places
 returns-in-Realloc-clause-places g c = (let k = c.realloc_seg.ensures.limits in stay_in_place c.args.store.now c.realloc_seg.new.store c.args.regions.now c.realloc_seg.new.regions c.args.names.now c.requires.places k.shares k.grows)
 
-pub returns-in-Realloc-clause-spells : goal.returns-in-Realloc-clause-spells
-returns-in-Realloc-clause-spells g c = λ p s w over spells. subst (λ (a : SegmentArguments). LeavesSpelled a c.realloc_seg.new.store c.args.names.now c.args.names.now (with_all w (ruling_of a (known_of s w) c.args.pid c.args.cpu.now).changes)) (sym c.in-Realloc.is) refl
-
 pub returns-in-Free-clause-places : goal.returns-in-Free-clause-places
 returns-in-Free-clause-places g c = (let k = c.free_seg.ensures.limits in stay_in_place c.args.store.now c.free_seg.new.store c.args.regions.now c.free_seg.new.regions c.args.names.now c.requires.places k.shares k.grows)
-
-pub returns-in-Free-clause-spells : goal.returns-in-Free-clause-spells
-returns-in-Free-clause-spells g c = λ p s w over spells. subst (λ (a : SegmentArguments). LeavesSpelled a c.free_seg.new.store c.args.names.now c.args.names.now (with_all w (ruling_of a (known_of s w) c.args.pid c.args.cpu.now).changes)) (sym c.in-Free.is) refl
 
 pub returns-in-Size-clause-places : goal.returns-in-Size-clause-places
 returns-in-Size-clause-places g c =
@@ -264,45 +275,14 @@ returns-in-Size-clause-places g c =
     let k = limits_same s t m n c.size_seg.ensures.store c.size_seg.ensures.regions in
     stay_in_place s t m n c.args.names.now c.requires.places k.shares k.grows
 
-pub returns-in-Size-clause-spells : goal.returns-in-Size-clause-spells
-returns-in-Size-clause-spells g c = λ p s w over spells. subst (λ (a : SegmentArguments). LeavesSpelled a c.size_seg.new.store c.args.names.now c.args.names.now (with_all w (ruling_of a (known_of s w) c.args.pid c.args.cpu.now).changes)) (sym c.in-Size.is) refl
-
 pub returns-in-Lock-clause-places : goal.returns-in-Lock-clause-places
 returns-in-Lock-clause-places g c = (let k = c.lock_seg.ensures.limits in stay_in_place c.args.store.now c.lock_seg.new.store c.args.regions.now c.lock_seg.new.regions c.args.names.now c.requires.places k.shares k.grows)
-
-pub returns-in-Lock-clause-spells : goal.returns-in-Lock-clause-spells
-returns-in-Lock-clause-spells g c = λ p s w over spells. subst (λ (a : SegmentArguments). LeavesSpelled a c.lock_seg.new.store c.args.names.now c.args.names.now (with_all w (ruling_of a (known_of s w) c.args.pid c.args.cpu.now).changes)) (sym c.in-Lock.is) refl
 
 pub returns-in-Unlock-clause-places : goal.returns-in-Unlock-clause-places
 returns-in-Unlock-clause-places g c = (let k = c.unlock_seg.ensures.limits in stay_in_place c.args.store.now c.unlock_seg.new.store c.args.regions.now c.unlock_seg.new.regions c.args.names.now c.requires.places k.shares k.grows)
 
-pub returns-in-Unlock-clause-spells : goal.returns-in-Unlock-clause-spells
-returns-in-Unlock-clause-spells g c = λ p s w over spells. subst (λ (a : SegmentArguments). LeavesSpelled a c.unlock_seg.new.store c.args.names.now c.args.names.now (with_all w (ruling_of a (known_of s w) c.args.pid c.args.cpu.now).changes)) (sym c.in-Unlock.is) refl
-
 pub returns-in-Alias-clause-places : goal.returns-in-Alias-clause-places
 returns-in-Alias-clause-places g c = (let k = c.create_cs_alias.ensures.limits in stay_in_place c.args.store.now c.create_cs_alias.new.store c.args.regions.now c.create_cs_alias.new.regions c.args.names.now c.requires.places k.shares k.grows)
-
-pub returns-in-Alias-clause-spells : goal.returns-in-Alias-clause-spells
-returns-in-Alias-clause-spells g c = λ p s w over spells. subst (λ (a : SegmentArguments). LeavesSpelled a c.create_cs_alias.new.store c.args.names.now c.args.names.now (with_all w (ruling_of a (known_of s w) c.args.pid c.args.cpu.now).changes)) (sym c.in-Alias.is) refl
-
-pub returns-in-Shared-clause-row : goal.returns-in-Shared-clause-row
-returns-in-Shared-clause-row g c = λ p s w over spells.
-    subst (λ (a : SegmentArguments). Answers (ruling_of a (known_of s w) c.args.pid c.args.cpu.now) c.share.result) (sym c.in-Shared.is)
-    (c.share.ensures.row c.args.images.now (g.S.SwapDevice.block c.args.swap.now) p s w over spells)
-
-pub returns-in-Shared-clause-registers : goal.returns-in-Shared-clause-registers
-returns-in-Shared-clause-registers g c = λ p s w over spells. subst (λ (a : SegmentArguments). c.args.cpu.now ≡ cpu_behind a (known_of s w) c.args.pid c.args.cpu.now (Done c.share.result)) (sym c.in-Shared.is) refl
-
-pub returns-in-Shared-clause-matches : goal.returns-in-Shared-clause-matches
-returns-in-Shared-clause-matches g c = λ p s w x over spells told at tied.
-    subst (λ (a : SegmentArguments). Matches (moved p c.share.new.store c.share.new.regions (g.S.SwapDevice.block c.args.swap.now)) (with_all w (ruling_of a (known_of s w) c.args.pid c.args.cpu.now).changes)) (sym c.in-Shared.is)
-    (unmoved _ _ _ _ p s w over c.args.pid c.requires.caller.process _ _ (with_all w (ruling_of (Shared c.in-Shared.shared) (known_of s w) c.args.pid c.args.cpu.now).changes)
-    (c.share.ensures.matches c.args.images.now (g.S.SwapDevice.block c.args.swap.now) p s w x over spells at))
-
-pub returns-in-Shared-clause-spells : goal.returns-in-Shared-clause-spells
-returns-in-Shared-clause-spells g c = λ p s w over spells.
-    subst (λ (a : SegmentArguments). LeavesSpelled a c.share.new.store c.args.names.now c.share.new.names (with_all w (ruling_of a (known_of s w) c.args.pid c.args.cpu.now).changes)) (sym c.in-Shared.is)
-    (c.share.ensures.spells c.args.images.now (g.S.SwapDevice.block c.args.swap.now) p s w over spells)
 
 pub returns-in-Shared-clause-kept : goal.returns-in-Shared-clause-kept
 returns-in-Shared-clause-kept g c = λ k named live here. c.share.ensures.kept k here
@@ -352,25 +332,6 @@ returns-in-Alias-clause-idle g c = λ none. inl (record { device = refl; none = 
 pub returns-in-Shared-clause-idle : goal.returns-in-Shared-clause-idle
 returns-in-Shared-clause-idle g c = λ none. inl (record { device = refl; none = c.share.ensures.goes_on.unused none })
 
-pub returns-in-Huge-clause-row : goal.returns-in-Huge-clause-row
-returns-in-Huge-clause-row g c = λ p s w over spells.
-    subst (λ (a : SegmentArguments). AnswersRoomed (ruling_of a (known_of s w) c.args.pid c.args.cpu.now) c.act_on_run.result) (sym c.in-Huge.is)
-    (c.act_on_run.ensures.row p s w over spells.processes).answer
-
-pub returns-in-Huge-clause-registers : goal.returns-in-Huge-clause-registers
-returns-in-Huge-clause-registers g c = λ p s w over spells.
-    subst (λ (a : SegmentArguments). c.act_on_run.new.cpu ≡ cpu_behind a (known_of s w) c.args.pid c.args.cpu.now c.act_on_run.result) (sym c.in-Huge.is)
-    (run_registers c.in-Huge.huge (known_of s w) c.args.pid c.args.cpu.now c.act_on_run.new.cpu c.act_on_run.result (c.act_on_run.ensures.row p s w over spells.processes).registers)
-
-pub returns-in-Huge-clause-matches : goal.returns-in-Huge-clause-matches
-returns-in-Huge-clause-matches g c = λ p s w x over spells told at tied.
-    subst (λ (a : SegmentArguments). Matches (moved p c.act_on_run.new.store c.act_on_run.new.regions (g.S.SwapDevice.block c.act_on_run.new.swap)) (with_all w (changes_roomed (ruling_of a (known_of s w) c.args.pid c.args.cpu.now) c.act_on_run.result))) (sym c.in-Huge.is)
-    ((c.act_on_run.ensures.row p s w over spells.processes).world x told at)
-
-pub returns-in-Huge-clause-spells : goal.returns-in-Huge-clause-spells
-returns-in-Huge-clause-spells g c = λ p s w over spells. subst (λ (a : SegmentArguments). LeavesSpelled a c.act_on_run.new.store c.args.names.now c.args.names.now (with_all w (ruling_of a (known_of s w) c.args.pid c.args.cpu.now).changes)) (sym c.in-Huge.is)
-    (refl)
-
 pub returns-in-Huge-clause-stops : goal.returns-in-Huge-clause-stops
 returns-in-Huge-clause-stops g c = λ stops. subst MayStop (sym c.in-Huge.is) (c.act_on_run.ensures.stops stops)
 
@@ -403,144 +364,6 @@ returns-in-Huge-clause-idle g c = λ none.
       | inl i ↦ inl i
       | inr may ↦ inr (subst (λ (a : SegmentArguments). IsShort a c.args.store.now c.args.regions.now c.args.pid c.act_on_run.result) (sym c.in-Huge.is) (record { unrefused = tt; stops = may; lacks = tt }))
     ]
-
-pub returns-in-Huge-clause-run_holds : goal.returns-in-Huge-clause-run_holds
-returns-in-Huge-clause-run_holds g c = λ p s w over spells.
-    subst (λ (a : SegmentArguments). LeavesRunHolds a c.args.regions.now c.act_on_run.new.regions (known_of s w) c.args.pid c.args.cpu.now) (sym c.in-Huge.is)
-    (c.act_on_run.ensures.row p s w over spells.processes).holds
-
-pub returns-in-Huge-clause-run_lacks : goal.returns-in-Huge-clause-run_lacks
-returns-in-Huge-clause-run_lacks g c = λ p s w over spells.
-    subst (λ (a : SegmentArguments). LacksRun a c.args.store.now (known_of s w) c.args.pid c.args.cpu.now c.args.keep.now c.act_on_run.result) (sym c.in-Huge.is)
-    (c.act_on_run.ensures.row p s w over spells.processes).lacks
-
-pub returns-in-Huge-clause-run_short : goal.returns-in-Huge-clause-run_short
-returns-in-Huge-clause-run_short g c = λ p s w over spells none.
-    subst (λ (a : SegmentArguments). IsIdle c.act_on_run.new.store c.args.swap.now c.act_on_run.new.swap ⊎ LacksRunMemory a c.args.store.now (known_of s w) c.args.pid c.args.cpu.now) (sym c.in-Huge.is)
-    ((c.act_on_run.ensures.row p s w over spells.processes).short none)
-
-pub returns-in-Alloc-clause-run_holds : goal.returns-in-Alloc-clause-run_holds
-returns-in-Alloc-clause-run_holds g c = λ p s w over spells. subst (λ (a : SegmentArguments). LeavesRunHolds a c.args.regions.now c.alloc_seg.new.regions (known_of s w) c.args.pid c.args.cpu.now) (sym c.in-Alloc.is)
-    (tt)
-
-pub returns-in-Alloc-clause-run_lacks : goal.returns-in-Alloc-clause-run_lacks
-returns-in-Alloc-clause-run_lacks g c = λ p s w over spells. subst (λ (a : SegmentArguments). LacksRun a c.args.store.now (known_of s w) c.args.pid c.args.cpu.now c.args.keep.now c.alloc_seg.result) (sym c.in-Alloc.is)
-    (tt)
-
-pub returns-in-Alloc-clause-run_short : goal.returns-in-Alloc-clause-run_short
-returns-in-Alloc-clause-run_short g c = λ p s w over spells none. inr (subst (λ (a : SegmentArguments). LacksRunMemory a c.args.store.now (known_of s w) c.args.pid c.args.cpu.now) (sym c.in-Alloc.is)
-    (tt))
-
-pub returns-in-Realloc-clause-run_holds : goal.returns-in-Realloc-clause-run_holds
-returns-in-Realloc-clause-run_holds g c = λ p s w over spells. subst (λ (a : SegmentArguments). LeavesRunHolds a c.args.regions.now c.realloc_seg.new.regions (known_of s w) c.args.pid c.args.cpu.now) (sym c.in-Realloc.is)
-    (tt)
-
-pub returns-in-Realloc-clause-run_lacks : goal.returns-in-Realloc-clause-run_lacks
-returns-in-Realloc-clause-run_lacks g c = λ p s w over spells. subst (λ (a : SegmentArguments). LacksRun a c.args.store.now (known_of s w) c.args.pid c.args.cpu.now c.args.keep.now c.realloc_seg.result) (sym c.in-Realloc.is)
-    (tt)
-
-pub returns-in-Realloc-clause-run_short : goal.returns-in-Realloc-clause-run_short
-returns-in-Realloc-clause-run_short g c = λ p s w over spells none. inr (subst (λ (a : SegmentArguments). LacksRunMemory a c.args.store.now (known_of s w) c.args.pid c.args.cpu.now) (sym c.in-Realloc.is)
-    (tt))
-
-pub returns-in-Free-clause-run_holds : goal.returns-in-Free-clause-run_holds
-returns-in-Free-clause-run_holds g c = λ p s w over spells. subst (λ (a : SegmentArguments). LeavesRunHolds a c.args.regions.now c.free_seg.new.regions (known_of s w) c.args.pid c.args.cpu.now) (sym c.in-Free.is)
-    (tt)
-
-pub returns-in-Free-clause-run_lacks : goal.returns-in-Free-clause-run_lacks
-returns-in-Free-clause-run_lacks g c = λ p s w over spells. subst (λ (a : SegmentArguments). LacksRun a c.args.store.now (known_of s w) c.args.pid c.args.cpu.now c.args.keep.now (Done c.free_seg.result)) (sym c.in-Free.is)
-    (tt)
-
-pub returns-in-Free-clause-run_short : goal.returns-in-Free-clause-run_short
-returns-in-Free-clause-run_short g c = λ p s w over spells none. inr (subst (λ (a : SegmentArguments). LacksRunMemory a c.args.store.now (known_of s w) c.args.pid c.args.cpu.now) (sym c.in-Free.is)
-    (tt))
-
-pub returns-in-Size-clause-run_holds : goal.returns-in-Size-clause-run_holds
-returns-in-Size-clause-run_holds g c = λ p s w over spells. subst (λ (a : SegmentArguments). LeavesRunHolds a c.args.regions.now c.size_seg.new.regions (known_of s w) c.args.pid c.args.cpu.now) (sym c.in-Size.is)
-    (tt)
-
-pub returns-in-Size-clause-run_lacks : goal.returns-in-Size-clause-run_lacks
-returns-in-Size-clause-run_lacks g c = λ p s w over spells. subst (λ (a : SegmentArguments). LacksRun a c.args.store.now (known_of s w) c.args.pid c.args.cpu.now c.args.keep.now (Done c.size_seg.result)) (sym c.in-Size.is)
-    (tt)
-
-pub returns-in-Size-clause-run_short : goal.returns-in-Size-clause-run_short
-returns-in-Size-clause-run_short g c = λ p s w over spells none. inr (subst (λ (a : SegmentArguments). LacksRunMemory a c.args.store.now (known_of s w) c.args.pid c.args.cpu.now) (sym c.in-Size.is)
-    (tt))
-
-pub returns-in-Lock-clause-run_holds : goal.returns-in-Lock-clause-run_holds
-returns-in-Lock-clause-run_holds g c = λ p s w over spells. subst (λ (a : SegmentArguments). LeavesRunHolds a c.args.regions.now c.lock_seg.new.regions (known_of s w) c.args.pid c.args.cpu.now) (sym c.in-Lock.is)
-    (tt)
-
-pub returns-in-Lock-clause-run_lacks : goal.returns-in-Lock-clause-run_lacks
-returns-in-Lock-clause-run_lacks g c = λ p s w over spells. subst (λ (a : SegmentArguments). LacksRun a c.args.store.now (known_of s w) c.args.pid c.args.cpu.now c.args.keep.now c.lock_seg.result) (sym c.in-Lock.is)
-    (tt)
-
-pub returns-in-Lock-clause-run_short : goal.returns-in-Lock-clause-run_short
-returns-in-Lock-clause-run_short g c = λ p s w over spells none. inr (subst (λ (a : SegmentArguments). LacksRunMemory a c.args.store.now (known_of s w) c.args.pid c.args.cpu.now) (sym c.in-Lock.is)
-    (tt))
-
-pub returns-in-Unlock-clause-run_holds : goal.returns-in-Unlock-clause-run_holds
-returns-in-Unlock-clause-run_holds g c = λ p s w over spells. subst (λ (a : SegmentArguments). LeavesRunHolds a c.args.regions.now c.unlock_seg.new.regions (known_of s w) c.args.pid c.args.cpu.now) (sym c.in-Unlock.is)
-    (tt)
-
-pub returns-in-Unlock-clause-run_lacks : goal.returns-in-Unlock-clause-run_lacks
-returns-in-Unlock-clause-run_lacks g c = λ p s w over spells. subst (λ (a : SegmentArguments). LacksRun a c.args.store.now (known_of s w) c.args.pid c.args.cpu.now c.args.keep.now (Done c.unlock_seg.result)) (sym c.in-Unlock.is)
-    (tt)
-
-pub returns-in-Unlock-clause-run_short : goal.returns-in-Unlock-clause-run_short
-returns-in-Unlock-clause-run_short g c = λ p s w over spells none. inr (subst (λ (a : SegmentArguments). LacksRunMemory a c.args.store.now (known_of s w) c.args.pid c.args.cpu.now) (sym c.in-Unlock.is)
-    (tt))
-
-pub returns-in-Alias-clause-run_holds : goal.returns-in-Alias-clause-run_holds
-returns-in-Alias-clause-run_holds g c = λ p s w over spells. subst (λ (a : SegmentArguments). LeavesRunHolds a c.args.regions.now c.create_cs_alias.new.regions (known_of s w) c.args.pid c.args.cpu.now) (sym c.in-Alias.is)
-    (tt)
-
-pub returns-in-Alias-clause-run_lacks : goal.returns-in-Alias-clause-run_lacks
-returns-in-Alias-clause-run_lacks g c = λ p s w over spells. subst (λ (a : SegmentArguments). LacksRun a c.args.store.now (known_of s w) c.args.pid c.args.cpu.now c.args.keep.now (Done c.create_cs_alias.result)) (sym c.in-Alias.is)
-    (tt)
-
-pub returns-in-Alias-clause-run_short : goal.returns-in-Alias-clause-run_short
-returns-in-Alias-clause-run_short g c = λ p s w over spells none. inr (subst (λ (a : SegmentArguments). LacksRunMemory a c.args.store.now (known_of s w) c.args.pid c.args.cpu.now) (sym c.in-Alias.is)
-    (tt))
-
-pub returns-in-Shared-clause-run_holds : goal.returns-in-Shared-clause-run_holds
-returns-in-Shared-clause-run_holds g c = λ p s w over spells. subst (λ (a : SegmentArguments). LeavesRunHolds a c.args.regions.now c.share.new.regions (known_of s w) c.args.pid c.args.cpu.now) (sym c.in-Shared.is)
-    (tt)
-
-pub returns-in-Shared-clause-run_lacks : goal.returns-in-Shared-clause-run_lacks
-returns-in-Shared-clause-run_lacks g c = λ p s w over spells. subst (λ (a : SegmentArguments). LacksRun a c.args.store.now (known_of s w) c.args.pid c.args.cpu.now c.args.keep.now (Done c.share.result)) (sym c.in-Shared.is)
-    (tt)
-
-pub returns-in-Shared-clause-run_short : goal.returns-in-Shared-clause-run_short
-returns-in-Shared-clause-run_short g c = λ p s w over spells none. inr (subst (λ (a : SegmentArguments). LacksRunMemory a c.args.store.now (known_of s w) c.args.pid c.args.cpu.now) (sym c.in-Shared.is)
-    (tt))
-
-pub returns-in-Alloc-clause-registers : goal.returns-in-Alloc-clause-registers
-returns-in-Alloc-clause-registers g c = λ p s w over spells.
-    still_registers c.args.arguments (known_of s w) c.args.pid c.args.cpu.now c.alloc_seg.result
-    (subst (λ (a : SegmentArguments). cpu_of a (known_of s w) c.args.pid c.args.cpu.now ≡ c.args.cpu.now) (sym c.in-Alloc.is) refl)
-
-pub returns-in-Realloc-clause-registers : goal.returns-in-Realloc-clause-registers
-returns-in-Realloc-clause-registers g c = λ p s w over spells.
-    still_registers c.args.arguments (known_of s w) c.args.pid c.args.cpu.now c.realloc_seg.result
-    (subst (λ (a : SegmentArguments). cpu_of a (known_of s w) c.args.pid c.args.cpu.now ≡ c.args.cpu.now) (sym c.in-Realloc.is) refl)
-
-pub returns-in-Size-clause-registers : goal.returns-in-Size-clause-registers
-returns-in-Size-clause-registers g c = λ p s w over spells. subst (λ (a : SegmentArguments). c.args.cpu.now ≡ cpu_behind a (known_of s w) c.args.pid c.args.cpu.now (Done c.size_seg.result)) (sym c.in-Size.is)
-    (refl)
-
-pub returns-in-Lock-clause-registers : goal.returns-in-Lock-clause-registers
-returns-in-Lock-clause-registers g c = λ p s w over spells.
-    still_registers c.args.arguments (known_of s w) c.args.pid c.args.cpu.now c.lock_seg.result
-    (subst (λ (a : SegmentArguments). cpu_of a (known_of s w) c.args.pid c.args.cpu.now ≡ c.args.cpu.now) (sym c.in-Lock.is) refl)
-
-pub returns-in-Unlock-clause-registers : goal.returns-in-Unlock-clause-registers
-returns-in-Unlock-clause-registers g c = λ p s w over spells. subst (λ (a : SegmentArguments). c.args.cpu.now ≡ cpu_behind a (known_of s w) c.args.pid c.args.cpu.now (Done c.unlock_seg.result)) (sym c.in-Unlock.is)
-    (refl)
-
-pub returns-in-Alias-clause-registers : goal.returns-in-Alias-clause-registers
-returns-in-Alias-clause-registers g c = λ p s w over spells. subst (λ (a : SegmentArguments). c.args.cpu.now ≡ cpu_behind a (known_of s w) c.args.pid c.args.cpu.now (Done c.create_cs_alias.result)) (sym c.in-Alias.is)
-    (refl)
 
 pub returns-in-Realloc-clause-processes : goal.returns-in-Realloc-clause-processes
 returns-in-Realloc-clause-processes g c = c.realloc_seg.ensures.holds.processes

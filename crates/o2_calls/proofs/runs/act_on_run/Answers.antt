@@ -1,5 +1,5 @@
 -- Each call on a huge allocation is its row.
-use Rattle.std.proofs.Common.{◌≡◌, ◌⊎◌, inl, inr, true, ap, refl, sym, ◌∙◌, subst, arith}
+use Rattle.std.proofs.Common.{◌≡◌, ◌⊎◌, inl, inr, true, [], ap, refl, sym, subst, arith}
 use Rattle.std.specs.List.{list_any}
 use Rattle.o2_regions.specs.declared.answer.Roomed.TheVariants.{Done, NoRoom, SwapFull}
 use Rattle.o2_regions.specs.Maps.{Maps}
@@ -12,7 +12,6 @@ use Rattle.o2_gate.specs.declared.huge.HugeArguments.{HugeArguments}
 use Rattle.o2_gate.specs.declared.huge.HugeArguments.TheVariants.{Alloc, Realloc}
 use Rattle.o2_stands.specs.Knows.{known_in, others_of}
 use Rattle.o2_stands.specs.Moves.{moved}
-use Rattle.o2_stands.specs.Stands.{Matches}
 use Rattle.o2_stands.proofs.Matching.{matched_by}
 use Rattle.o2_world.specs.Changes.{takes, with_all}
 use Rattle.o2_world.specs.HugeRulings.{huge_allocation}
@@ -23,7 +22,7 @@ use Rattle.o2_huge.specs.Frames.{StopsFor}
 use Rattle.o2_calls.specs.HugeActs.{MaySize}
 use Rattle.o2_calls.specs.RunRows.{IsRunRow}
 use Rattle.o2_calls.specs.Stops.{IsRunGivable, LeavesRun, LeavesRunEntries}
-use Rattle.o2_calls.proofs.Overs.{behind_by, nothing, row_by, store_only, unmoved}
+use Rattle.o2_calls.proofs.Overs.{behind_by, row_by, unchanged, unmoved}
 use Rattle.o2_calls.proofs.RunActs.{huge_over, known_over, lacks_sized, limits_sized, lose_over, sized_registers}
 use Rattle.o2_calls.proofs.SharedOver.{limits_by_made}
 use Rattle.o2_store.proofs.Framing.{device_refl}
@@ -101,13 +100,12 @@ returns-in-Shift-clause-row g c = λ p s w over total.
     let pid = c.args.pid in
     let block = g.S.SwapDevice.block swap in
     let told = g.S.SwapDevice.told swap in
+    let process = c.requires.caller.process in
     let store = c.huge_shift.ensures.store in
-    let matches = matched_by p w.processes w.names w.next_name w.reserved over.stands in
-    let same = subst (λ (z : Shelf). Matches (record p { shelf = z }) w) (over.store ∙ sym store) matches in
     subst (λ (x : HugeArguments). IsRunRow x p s w pid old t m n c.args.keep.now told block cpu cpu r (IsIdle t swap swap)) (sym c.in-Shift.is) (record {
       answer = c.huge_shift.ensures.answer;
       registers = refl;
-      world = λ x told at. subst (Matches (moved p t n block)) (sym (nothing w)) (store_only _ _ _ _ p s w over pid c.requires.caller.process t n w c.huge_shift.ensures.regions same);
+      world = λ x told at. unmoved _ _ _ _ p s w over pid process t n (with_all w []) (unchanged _ _ _ _ p s w over pid process t n [] store c.huge_shift.ensures.regions refl);
       holds = tt;
       lacks = tt;
       short = λ none. inl (record { device = refl; none = subst (λ (z : Shelf). NoneTaken z.swap) (sym store) none });

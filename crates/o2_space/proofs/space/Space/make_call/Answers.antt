@@ -91,7 +91,7 @@ returns-in-NoRoom-clause-makes g c = λ s w x tells here agrees tied same.
     let spells = spells_here m (S.blocks c.args.swap.now) (S.block c.args.swap.now) s w here.stands agrees c.requires.together in
     on_device (moved p c.act.new.store c.act.new.regions (S.block c.act.new.swap)) (S.blocks c.act.new.swap) (λ (q : Parts). Stands q w) c.act.ensures.device.blocks
     (stays_at p w c.act.new.store c.act.new.regions (S.block c.act.new.swap)
-    (c.in-NoRoom.ensures.matches p s w x over spells tells here.process tied) here.stands)
+    ((c.in-NoRoom.ensures.row p s w over spells).matches x tells here.process tied) here.stands)
 
 pub returns-in-NoRoom-clause-room : goal.returns-in-NoRoom-clause-room
 returns-in-NoRoom-clause-room g c = λ s w x tells here turn live same call room.
@@ -102,8 +102,8 @@ returns-in-NoRoom-clause-room g c = λ s w x tells here turn live same call room
     let spells = spells_here m (S.blocks c.args.swap.now) (S.block c.args.swap.now) s w here.stands turn.agrees c.requires.together in
     lacks_at p s w x c.lawful.ensures turn.agrees.set here.stands live turn.sound c.args.arguments c.args.next c.args.cpu.now same _ c.args.pid turn.turn
     (record { there = here.process; call = call; step = c.requires.can_step; ready = c.requires.aimed; keeps = c.ids.ensures ∙ ap segments_of c.call_need-need.ensures })
-    (c.in-NoRoom.ensures.row p s w over spells)
-    (c.in-NoRoom.ensures.stops tt) (c.in-NoRoom.ensures.no_room refl) (c.in-NoRoom.ensures.run_lacks p s w over spells)
+    (c.in-NoRoom.ensures.row p s w over spells).answer
+    (c.in-NoRoom.ensures.stops tt) (c.in-NoRoom.ensures.no_room refl) (c.in-NoRoom.ensures.row p s w over spells).lacks
 
 pub returns-in-NoRoom-clause-together : goal.returns-in-NoRoom-clause-together
 returns-in-NoRoom-clause-together g c =
@@ -130,7 +130,7 @@ returns-in-SwapFull-clause-makes g c = λ s w x tells here agrees tied same.
     let spells = spells_here m (S.blocks c.args.swap.now) (S.block c.args.swap.now) s w here.stands agrees c.requires.together in
     on_device (moved p c.act.new.store c.act.new.regions (S.block c.act.new.swap)) (S.blocks c.act.new.swap) (λ (q : Parts). Stands q w) c.act.ensures.device.blocks
     (stays_at p w c.act.new.store c.act.new.regions (S.block c.act.new.swap)
-    (c.in-SwapFull.ensures.matches p s w x over spells tells here.process tied) here.stands)
+    ((c.in-SwapFull.ensures.row p s w over spells).matches x tells here.process tied) here.stands)
 
 pub returns-in-SwapFull-clause-room : goal.returns-in-SwapFull-clause-room
 returns-in-SwapFull-clause-room g c = λ s w x tells here turn live same call room.
@@ -141,9 +141,9 @@ returns-in-SwapFull-clause-room g c = λ s w x tells here turn live same call ro
     let spells = spells_here m (S.blocks c.args.swap.now) (S.block c.args.swap.now) s w here.stands turn.agrees c.requires.together in
     full_at p s w x c.lawful.ensures turn.agrees.set here.stands live turn.sound c.args.arguments c.args.next c.args.cpu.now same _ c.args.pid turn.turn
     (record { there = here.process; call = call; step = c.requires.can_step; ready = c.requires.aimed; keeps = c.ids.ensures ∙ ap segments_of c.call_need-need.ensures })
-    (c.in-SwapFull.ensures.row p s w over spells)
+    (c.in-SwapFull.ensures.row p s w over spells).answer
     (c.in-SwapFull.ensures.stops tt) (c.in-SwapFull.ensures.swap_full refl)
-    (run_full c.args.arguments c.args.self.now.store (known_of s w) c.args.pid c.args.cpu.now _ (c.in-SwapFull.ensures.run_lacks p s w over spells))
+    (run_full c.args.arguments c.args.self.now.store (known_of s w) c.args.pid c.args.cpu.now _ (c.in-SwapFull.ensures.row p s w over spells).lacks)
 
 pub returns-in-SwapFull-clause-together : goal.returns-in-SwapFull-clause-together
 returns-in-SwapFull-clause-together g c =
@@ -170,7 +170,7 @@ returns-in-SwapFault-clause-makes g c = λ s w x tells here agrees tied same.
     let spells = spells_here m (S.blocks c.args.swap.now) (S.block c.args.swap.now) s w here.stands agrees c.requires.together in
     on_device (moved p c.act.new.store c.act.new.regions (S.block c.act.new.swap)) (S.blocks c.act.new.swap) (λ (q : Parts). Stands q w) c.act.ensures.device.blocks
     (stays_at p w c.act.new.store c.act.new.regions (S.block c.act.new.swap)
-    (c.in-SwapFault.ensures.matches p s w x over spells tells here.process tied) here.stands)
+    ((c.in-SwapFault.ensures.row p s w over spells).matches x tells here.process tied) here.stands)
 
 pub returns-in-SwapFault-clause-together : goal.returns-in-SwapFault-clause-together
 returns-in-SwapFault-clause-together g c =
@@ -205,15 +205,15 @@ returns-in-Done-clause-makes g c = λ s w x tells here agrees tied same.
     let p : Parts = parts_in m (S.blocks c.args.swap.now) (S.block c.args.swap.now) in
     let over = over_here m (S.blocks c.args.swap.now) (S.block c.args.swap.now) s w here.stands agrees c.lawful.ensures in
     let spells = spells_here m (S.blocks c.args.swap.now) (S.block c.args.swap.now) s w here.stands agrees c.requires.together in
-    let answers = subst (λ (z : Cpu). Answers (ruling_of a (known_of s w) pid z) c.in-Done.answer) same (c.in-Done.ensures.row p s w over spells) in
+    let answers = subst (λ (z : Cpu). Answers (ruling_of a (known_of s w) pid z) c.in-Done.answer) same (c.in-Done.ensures.row p s w over spells).answer in
     let behind = replied_by a (before s w pid x) c.args.next in
     let registers =
     c.come_back.ensures
-    ∙ (ap (λ (z : Cpu). returned z c.args.next (words_of a) c.in-Done.answer.error) (c.in-Done.ensures.registers p s w over spells ∙ ap (cpu_of a (known_of s w) pid) same)
+    ∙ (ap (λ (z : Cpu). returned z c.args.next (words_of a) c.in-Done.answer.error) ((c.in-Done.ensures.row p s w over spells).registers ∙ ap (cpu_of a (known_of s w) pid) same)
     ∙ ap (λ (k : ℕ). returned (cpu_of a (known_of s w) pid x.cpu) c.args.next (words_of a) k) answers.error) in
     let matches =
     subst (λ (z : Cpu). Matches (moved p t n block) (with_all w (ruling_of a (known_of s w) pid z).changes)) same
-    (c.in-Done.ensures.matches p s w x over spells tells here.process tied) in
+    ((c.in-Done.ensures.row p s w over spells).matches x tells here.process tied) in
     let ready =
     ready_called m.store t m.regions n m.images (S.blocks c.args.swap.now) (S.block c.args.swap.now) block (running_at m.procs.items) (c.requires.together.ready (S.block c.args.swap.now))
     e.goes_on.order e.goes_on.guards e.goes_on.clean (e.goes_on.pictures m.images (c.requires.together.ready (λ k. [])).pictures) e.goes_on.map (S.blocks c.args.swap.now) refl in
@@ -248,7 +248,7 @@ returns-in-Done-clause-moves g c = λ s w x tells here agrees tied same.
     let spells = spells_here m (S.blocks c.args.swap.now) (S.block c.args.swap.now) s w here.stands agrees c.requires.together in
     let told =
     all_noted p n s w x pid c.args.cpu.now c.lawful.ensures agrees.set here.stands c.requires.can_step.process spells.processes c.act.ensures.processes here.process a answer
-    (moved p c.act.new.store n (S.block c.act.new.swap)) refl (c.in-Done.ensures.matches p s w x over spells tells here.process tied) (c.in-Done.ensures.row p s w over spells) in
+    (moved p c.act.new.store n (S.block c.act.new.swap)) refl ((c.in-Done.ensures.row p s w over spells).matches x tells here.process tied) (c.in-Done.ensures.row p s w over spells).answer in
     let is : c.note.new.moves ≡ noted a pid (counted_by a m.regions pid) n (Done answer) = c.note.ensures.notes ∙ ap (λ (d : Counted). noted a pid d n (Done answer)) c.count-counted.ensures in
     ap (all_lines (name_of a)) is ∙ (told.lines ∙ ap (λ (z : Cpu). moved_lines (name_of a) (ruling_of a (known_of s w) pid z).changes) same)
 
@@ -286,7 +286,7 @@ returns-in-Done-clause-room g c = λ s w x tells here turn live same call room.
     let e = c.act.ensures in
     fits_at p s w x c.lawful.ensures turn.agrees.set here.stands live turn.sound c.args.arguments c.args.next c.args.cpu.now same _ c.args.pid turn.turn
     (record { there = here.process; call = call; step = c.requires.can_step; ready = c.requires.aimed; keeps = c.ids.ensures ∙ ap segments_of c.call_need-need.ensures })
-    c.act.new.store c.act.new.regions e.holds (e.run_holds p s w over spells) e.limits.size q c.lawful-in-Done-2.ensures (record { kept = e.kept; store = c.give.ensures.store; maps = c.give.ensures.maps }) _ c.in-Done.answer
+    c.act.new.store c.act.new.regions e.holds (e.row p s w over spells).holds e.limits.size q c.lawful-in-Done-2.ensures (record { kept = e.kept; store = c.give.ensures.store; maps = c.give.ensures.maps }) _ c.in-Done.answer
     (returns-in-Done-clause-makes g c s w x tells here turn.agrees turn.sound.tied same) room
 
 pub returns-in-NoRoom-clause-spells : goal.returns-in-NoRoom-clause-spells
@@ -297,7 +297,7 @@ returns-in-NoRoom-clause-spells g c = λ s w x stands agrees same.
     let over = over_here m (S.blocks c.args.swap.now) (S.block c.args.swap.now) s w stands agrees c.lawful.ensures in
     let spells = spells_here m (S.blocks c.args.swap.now) (S.block c.args.swap.now) s w stands agrees c.requires.together in
     stops_unnamed c.args.arguments (c.in-NoRoom.ensures.stops tt) c.act.new.store m.names c.act.new.names (with_all w (ruling_of c.args.arguments (known_of s w) c.args.pid c.args.cpu.now).changes)
-    (c.act.ensures.spells p s w over spells)
+    (c.act.ensures.row p s w over spells).spells
 
 pub returns-in-NoRoom-clause-behind : goal.returns-in-NoRoom-clause-behind
 returns-in-NoRoom-clause-behind g c = record { lived = c.act.ensures.limits.shares.lived }
@@ -310,7 +310,7 @@ returns-in-SwapFull-clause-spells g c = λ s w x stands agrees same.
     let over = over_here m (S.blocks c.args.swap.now) (S.block c.args.swap.now) s w stands agrees c.lawful.ensures in
     let spells = spells_here m (S.blocks c.args.swap.now) (S.block c.args.swap.now) s w stands agrees c.requires.together in
     stops_unnamed c.args.arguments (c.in-SwapFull.ensures.stops tt) c.act.new.store m.names c.act.new.names (with_all w (ruling_of c.args.arguments (known_of s w) c.args.pid c.args.cpu.now).changes)
-    (c.act.ensures.spells p s w over spells)
+    (c.act.ensures.row p s w over spells).spells
 
 pub returns-in-SwapFull-clause-behind : goal.returns-in-SwapFull-clause-behind
 returns-in-SwapFull-clause-behind g c = record { lived = c.act.ensures.limits.shares.lived }
@@ -323,7 +323,7 @@ returns-in-SwapFault-clause-spells g c = λ s w x stands agrees same.
     let over = over_here m (S.blocks c.args.swap.now) (S.block c.args.swap.now) s w stands agrees c.lawful.ensures in
     let spells = spells_here m (S.blocks c.args.swap.now) (S.block c.args.swap.now) s w stands agrees c.requires.together in
     stops_unnamed c.args.arguments (c.in-SwapFault.ensures.stops tt) c.act.new.store m.names c.act.new.names (with_all w (ruling_of c.args.arguments (known_of s w) c.args.pid c.args.cpu.now).changes)
-    (c.act.ensures.spells p s w over spells)
+    (c.act.ensures.row p s w over spells).spells
 
 pub returns-in-SwapFault-clause-behind : goal.returns-in-SwapFault-clause-behind
 returns-in-SwapFault-clause-behind g c = record { lived = c.act.ensures.limits.shares.lived }
@@ -340,7 +340,7 @@ returns-in-Done-clause-spells g c = λ s w x stands agrees same.
     let spells = spells_here m (S.blocks c.args.swap.now) (S.block c.args.swap.now) s w stands agrees c.requires.together in
     leaves_written a t c.give.new.store c.give.ensures.store m.names names (with_all w (ruling_of a (known_of s w) c.args.pid x.cpu).changes)
     (subst (λ (z : Cpu). LeavesSpelled a t m.names names (with_all w (ruling_of a (known_of s w) c.args.pid z).changes)) same
-    (c.act.ensures.spells p s w over spells))
+    (c.act.ensures.row p s w over spells).spells)
 
 pub returns-in-Done-clause-behind : goal.returns-in-Done-clause-behind
 returns-in-Done-clause-behind g c = record {
@@ -360,13 +360,13 @@ returns-in-NoRoom-clause-idle g c = λ s w x here turn live same call fit none.
     let spells = spells_here m (S.blocks c.args.swap.now) (S.block c.args.swap.now) s w here.stands turn.agrees c.requires.together in
     elim (c.act.ensures.idle none) [
       | inl i ↦ i
-      | inr short ↦ elim (c.act.ensures.run_short p s w over spells none) [
+      | inr short ↦ elim ((c.act.ensures.row p s w over spells).short none) [
         | inl i ↦ i
         | inr run ↦ absurd
             (let more = short_at p s w x c.lawful.ensures turn.agrees.set here.stands live turn.sound c.args.arguments c.args.next c.args.cpu.now same _ c.args.pid turn.turn
             (record { there = here.process; call = call; step = c.requires.can_step; ready = c.requires.aimed; keeps = c.ids.ensures ∙ ap segments_of c.call_need-need.ensures })
             (unrefused_by c.args.arguments (ruling_of c.args.arguments (known_of s w) c.args.pid c.args.cpu.now) c.act.result
-            (c.act.ensures.row p s w over spells) short.unrefused)
+            (c.act.ensures.row p s w over spells).answer short.unrefused)
             short.stops short.lacks run in
             omega (arith, more, fit))
       ]
@@ -381,13 +381,13 @@ returns-in-SwapFull-clause-idle g c = λ s w x here turn live same call fit none
     let spells = spells_here m (S.blocks c.args.swap.now) (S.block c.args.swap.now) s w here.stands turn.agrees c.requires.together in
     elim (c.act.ensures.idle none) [
       | inl i ↦ i
-      | inr short ↦ elim (c.act.ensures.run_short p s w over spells none) [
+      | inr short ↦ elim ((c.act.ensures.row p s w over spells).short none) [
         | inl i ↦ i
         | inr run ↦ absurd
             (let more = short_at p s w x c.lawful.ensures turn.agrees.set here.stands live turn.sound c.args.arguments c.args.next c.args.cpu.now same _ c.args.pid turn.turn
             (record { there = here.process; call = call; step = c.requires.can_step; ready = c.requires.aimed; keeps = c.ids.ensures ∙ ap segments_of c.call_need-need.ensures })
             (unrefused_by c.args.arguments (ruling_of c.args.arguments (known_of s w) c.args.pid c.args.cpu.now) c.act.result
-            (c.act.ensures.row p s w over spells) short.unrefused)
+            (c.act.ensures.row p s w over spells).answer short.unrefused)
             short.stops short.lacks run in
             omega (arith, more, fit))
       ]
@@ -402,13 +402,13 @@ returns-in-SwapFault-clause-idle g c = λ s w x here turn live same call fit non
     let spells = spells_here m (S.blocks c.args.swap.now) (S.block c.args.swap.now) s w here.stands turn.agrees c.requires.together in
     elim (c.act.ensures.idle none) [
       | inl i ↦ i
-      | inr short ↦ elim (c.act.ensures.run_short p s w over spells none) [
+      | inr short ↦ elim ((c.act.ensures.row p s w over spells).short none) [
         | inl i ↦ i
         | inr run ↦ absurd
             (let more = short_at p s w x c.lawful.ensures turn.agrees.set here.stands live turn.sound c.args.arguments c.args.next c.args.cpu.now same _ c.args.pid turn.turn
             (record { there = here.process; call = call; step = c.requires.can_step; ready = c.requires.aimed; keeps = c.ids.ensures ∙ ap segments_of c.call_need-need.ensures })
             (unrefused_by c.args.arguments (ruling_of c.args.arguments (known_of s w) c.args.pid c.args.cpu.now) c.act.result
-            (c.act.ensures.row p s w over spells) short.unrefused)
+            (c.act.ensures.row p s w over spells).answer short.unrefused)
             short.stops short.lacks run in
             omega (arith, more, fit))
       ]
@@ -423,13 +423,13 @@ returns-in-Done-clause-idle g c = λ s w x here turn live same call fit none.
     let spells = spells_here m (S.blocks c.args.swap.now) (S.block c.args.swap.now) s w here.stands turn.agrees c.requires.together in
     elim (c.act.ensures.idle none) [
       | inl i ↦ record { device = i.device; none = subst NoneTaken (sym (ap (λ (z : Shelf). z.swap) c.give.ensures.store.store)) i.none }
-      | inr short ↦ elim (c.act.ensures.run_short p s w over spells none) [
+      | inr short ↦ elim ((c.act.ensures.row p s w over spells).short none) [
         | inl i ↦ record { device = i.device; none = subst NoneTaken (sym (ap (λ (z : Shelf). z.swap) c.give.ensures.store.store)) i.none }
         | inr run ↦ absurd
             (let more = short_at p s w x c.lawful.ensures turn.agrees.set here.stands live turn.sound c.args.arguments c.args.next c.args.cpu.now same _ c.args.pid turn.turn
             (record { there = here.process; call = call; step = c.requires.can_step; ready = c.requires.aimed; keeps = c.ids.ensures ∙ ap segments_of c.call_need-need.ensures })
             (unrefused_by c.args.arguments (ruling_of c.args.arguments (known_of s w) c.args.pid c.args.cpu.now) c.act.result
-            (c.act.ensures.row p s w over spells) short.unrefused)
+            (c.act.ensures.row p s w over spells).answer short.unrefused)
             short.stops short.lacks run in
             omega (arith, more, fit))
       ]
