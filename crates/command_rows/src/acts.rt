@@ -1,7 +1,7 @@
 // What processes do, as code: a call, a text that is written, or instructions.
 
 use o2_base::NoMemory;
-use o2_rows::hex;
+use row_parts::hex;
 
 /// A word by its hexadecimal digits.
 fn word(text: &str) -> u16 {

@@ -1,8 +1,7 @@
 // Statements that change bytes.
 
 use o2_base::NoMemory;
-use o2_rows::hex;
-use row_parts::add_bytes;
+use row_parts::{add_bytes, hex};
 
 /// A decimal number, 0 where it is none.
 pub fn decimal(text: &str) -> usize {

@@ -3,8 +3,9 @@ use o2_base::{Bytes, Fail, NoMemory};
 use o2_dump::{Core, CoreFault, Place, State};
 use o2_gen::module;
 use o2_outer::{MemFiles, MemSink, MemSource, MemSwap};
-use o2_rows::executables::add_text;
-use o2_rows::{Answer, HELLO, Outside, add_file, answer_of, words_in};
+use o2_rows::{Answer, Outside, answer_of, words_in};
+use row_parts::executables::HELLO;
+use row_parts::{Files, add_file, add_text, bytes_in};
 use std::alloc::Global;
 use std::test;
 
@@ -71,15 +72,10 @@ impl Failing {
 }
 
 /// Adds both programs, and the machine file with these sizes and this rest.
-fn add_files(
-    alloc: Global,
-    list: &mut Vec<(Bytes, Bytes)>,
-    sizes: &str,
-    rest: &str,
-) -> Result<(), NoMemory> {
+fn add_files(alloc: Global, list: &mut Files, sizes: &str, rest: &str) -> Result<(), NoMemory> {
     let bench = module(alloc)?;
-    add_file(alloc, list, b"bench.exe", bench.as_slice())?;
-    add_file(alloc, list, b"hello.exe", &HELLO)?;
+    add_file(alloc, list, "bench.exe", bench.as_slice().to_vec(alloc)?)?;
+    add_file(alloc, list, "hello.exe", bytes_in(alloc, HELLO)?)?;
     add_text(alloc, list, "a.toml", sizes, rest)
 }
 

@@ -2,6 +2,7 @@ use o2_base::{Bytes, Fail as ReadFail, ModuleFault, NoMemory};
 use o2_conf::Conf;
 use o2_dynlink::{LinkFault, Linked, link};
 use o2_image::Module;
+use row_parts::{bytes_in, hex};
 use std::alloc::Global;
 use std::test::Fail;
 
@@ -81,31 +82,17 @@ fn file_of(letter: u8) -> &'static str {
     }
 }
 
-fn number(text: &str) -> u16 {
-    match u16::from_str_radix(text, 16) {
-        Ok(value) => value,
-        Err(_) => 0xDEAD,
-    }
-}
-
-// The bytes of a text.
-fn bytes_in(alloc: Global, text: &str) -> Result<Vec<u8>, NoMemory> {
-    let mut bytes = Vec::new(alloc);
-    for token in text.split_ascii_whitespace() {
-        let (byte, times) = token.split_once('*').unwrap_or((token, "1"));
-        for _ in 0..number(times) {
-            bytes.push((number(byte) % 256) as u8)?;
-        }
-    }
-    Ok(bytes)
+// A word by its hexadecimal digits.
+fn word(text: &str) -> u16 {
+    (hex(text) % 65_536) as u16
 }
 
 // The place and the byte of a change of this file.
 fn change_of(which: usize, change: &str) -> Option<(usize, u8)> {
     let (file, rest) = change.split_once('.')?;
     let (place, byte) = rest.split_once('=')?;
-    if number(file) as usize == which {
-        Some((number(place) as usize, (number(byte) % 256) as u8))
+    if hex(file) == which {
+        Some((hex(place), (hex(byte) % 256) as u8))
     } else {
         None
     }
@@ -181,8 +168,8 @@ fn told(fault: &ModuleFault) -> (u16, &[u8], &[u8]) {
 // Whether what linking answers is what a line tells.
 fn is_told(answer: &Result<Linked, LinkFault>, expected: &str) -> bool {
     let mut words = expected.split_ascii_whitespace();
-    let file = number(words.next().unwrap_or(""));
-    let reason = number(words.next().unwrap_or(""));
+    let file = word(words.next().unwrap_or(""));
+    let reason = word(words.next().unwrap_or(""));
     let first = words.next().unwrap_or("");
     let second = words.next().unwrap_or("");
     match answer {

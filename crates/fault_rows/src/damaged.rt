@@ -2,9 +2,9 @@
 
 use o2_base::{ModuleFault, NoMemory};
 use o2_cli::{Status, number};
-use o2_rows::executables::{COUNTER, Files, HELLO, MIX, MIXED, SMALL, add_file, add_text};
 use o2_rows::failing::{Answer, Failing, run};
-use row_parts::bytes_in;
+use row_parts::executables::{COUNTER, HELLO, MIX, MIXED, SMALL};
+use row_parts::{Files, add_file, add_text, bytes_in};
 use std::alloc::Global;
 use std::test::Fail;
 

@@ -4,8 +4,8 @@
 // put in front of them, and nothing behind but the line of the stop.
 
 use o2_base::NoMemory;
-use o2_rows::executables::{SMALL, mixed};
 use o2_rows::failing::{Answer, Failing, run};
+use row_parts::executables::{SMALL, mixed};
 use std::alloc::Global;
 use std::test::Fail;
 

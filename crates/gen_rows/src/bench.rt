@@ -2,6 +2,7 @@ use o2_base::{Bytes, Fail, NoMemory};
 use o2_conf::Conf;
 use o2_gen::{machine, module};
 use o2_image::Module;
+use row_parts::bytes_in;
 use std::alloc::{AllocError, Global};
 use std::test;
 
@@ -34,25 +35,6 @@ static PROCESS: &str = "
 [[process]]
 module = \"BENCH\"
 ";
-
-fn number(text: &str) -> usize {
-    match usize::from_str_radix(text, 16) {
-        Ok(n) => n,
-        Err(_) => 0,
-    }
-}
-
-/// The bytes of a text.
-fn bytes_in(alloc: Global, text: &str) -> Result<Vec<u8>, NoMemory> {
-    let mut bytes = Vec::new(alloc);
-    for token in text.split_ascii_whitespace() {
-        let (byte, times) = token.split_once('*').unwrap_or((token, "1"));
-        for _ in 0..number(times) {
-            bytes.push((number(byte) % 256) as u8)?;
-        }
-    }
-    Ok(bytes)
-}
 
 #[test]
 fn the_file_is_that_of_the_tools(rt: HostRuntime) -> Result<(), test::Fail> {

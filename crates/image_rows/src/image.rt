@@ -2,7 +2,7 @@ ghost use Rattle.std.specs.Prelude.{◌≡◌, []};
 
 use o2_base::{Bytes, Fail as ReadFail, NoMemory};
 use o2_image::{Module, ModuleFault, Resolved, SharedTargets};
-use row_parts::{bytes_in, number};
+use row_parts::{bytes_in, hex};
 use std::alloc::Global;
 use std::test::Fail;
 
@@ -117,11 +117,11 @@ static MEETS: &str = "
 ";
 
 fn byte(text: &str) -> u8 {
-    (number(text) % 256) as u8
+    (hex(text) % 256) as u8
 }
 
 fn word(text: &str) -> u16 {
-    (number(text) % 65536) as u16
+    (hex(text) % 65536) as u16
 }
 
 // Changes a file: cuts it to a length, or puts a byte in a place.
@@ -129,11 +129,11 @@ fn change(file: &mut Vec<u8>, changes: &str) {
     for change in changes.split_ascii_whitespace() {
         match change.split_once('=') {
             Some((place, other)) => {
-                if let Some(held) = file.get_mut(number(place)) {
+                if let Some(held) = file.get_mut(hex(place)) {
                     *held = byte(other);
                 }
             }
-            None => file.truncate(number(change)),
+            None => file.truncate(hex(change)),
         }
     }
 }

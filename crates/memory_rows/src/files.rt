@@ -1,7 +1,7 @@
 // The module of all rows as a text, and machine files over it.
 
-use o2_base::{Bytes, NoMemory};
-use row_parts::bytes_in;
+use o2_base::NoMemory;
+use row_parts::{Files, add_file, bytes_in};
 use std::alloc::{AllocError, Global};
 
 /// Puts a 1 into the first of two segments of 16,384 bytes, loads the second one, which takes its place, and reads the byte again: headers,
@@ -23,30 +23,19 @@ fn machine_file(alloc: Global, keys: &str) -> Result<String, AllocError> {
     )
 }
 
-/// A file more.
-fn add_file(
-    alloc: Global,
-    files: &mut Vec<(Bytes, Bytes)>,
-    name: &[u8],
-    file: Vec<u8>,
-) -> Result<(), NoMemory> {
-    files.push((Bytes::from_slice(alloc, name)?, Bytes::new(file)))?;
-    Ok(())
-}
-
 /// The machine file, and the module in `a.exe`.
-fn add_files(alloc: Global, files: &mut Vec<(Bytes, Bytes)>, keys: &str) -> Result<(), NoMemory> {
+fn add_files(alloc: Global, files: &mut Files, keys: &str) -> Result<(), NoMemory> {
     add_file(
         alloc,
         files,
-        b"a.toml",
+        "a.toml",
         machine_file(alloc, keys)?.into_bytes(),
     )?;
-    add_file(alloc, files, b"a.exe", bytes_in(alloc, READ_AGAIN)?)
+    add_file(alloc, files, "a.exe", bytes_in(alloc, READ_AGAIN)?)
 }
 
 /// Both files.
-pub fn files_of(alloc: Global, keys: &str) -> Result<Vec<(Bytes, Bytes)>, NoMemory> {
+pub fn files_of(alloc: Global, keys: &str) -> Result<Files, NoMemory> {
     let mut files = Vec::new(alloc);
     add_files(alloc, &mut files, keys)?;
     Ok(files)

@@ -1,10 +1,10 @@
 // Runs over devices of which a call fails.
 
-use crate::executables::Files;
 use crate::outside::{Outside, words_in};
 use o2_base::{Bytes, NoMemory};
 use o2_cli::{Status, number};
 use o2_outer::{MemFiles, MemSink, MemSource, MemSwap};
+use row_parts::Files;
 use std::alloc::Global;
 
 /// The call that fails, counted from 1 over those of its device; of a sink with how many bytes it takes before.

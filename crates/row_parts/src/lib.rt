@@ -1,8 +1,11 @@
-//! What the crates of rows share, whatever they test: the bytes of a text, and numbers that look random.
+//! What the crates of rows share, whatever they test: the bytes of a text, numbers that look random, executables, and the files of a run.
 #![tactic(auto)]
 
+pub mod executables;
+mod files;
 mod numbers;
 mod texts;
 
+pub use files::{Files, add_file, add_text};
 pub use numbers::{below, next, word_below};
-pub use texts::{add_bytes, bytes_in, number};
+pub use texts::{add_bytes, bytes_in, hex};

@@ -3,17 +3,17 @@
 use o2_base::NoMemory;
 use std::alloc::Global;
 
-/// A hexadecimal number, 0 where it is none.
-pub fn number(text: &str) -> usize {
-    usize::from_str_radix(text, 16).unwrap_or(0)
+/// A hexadecimal number; DEADh where it is none, which no row wants.
+pub fn hex(text: &str) -> usize {
+    usize::from_str_radix(text, 16).unwrap_or(0xDEAD)
 }
 
 /// Adds the bytes of a text.
 pub fn add_bytes(bytes: &mut Vec<u8>, text: &str) -> Result<(), NoMemory> {
     for token in text.split_ascii_whitespace() {
         let (byte, times) = token.split_once('*').unwrap_or((token, "1"));
-        let len = bytes.len().saturating_add(number(times));
-        bytes.resize(len, (number(byte) % 256) as u8)?;
+        let len = bytes.len().saturating_add(hex(times));
+        bytes.resize(len, (hex(byte) % 256) as u8)?;
     }
     Ok(())
 }

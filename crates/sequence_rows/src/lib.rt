@@ -2,10 +2,6 @@
 #![tactic(auto)]
 
 #[cfg(test)]
-mod executables;
-#[cfg(test)]
 mod random;
-#[cfg(test)]
-mod reach;
 #[cfg(test)]
 mod runs;

@@ -1,12 +1,10 @@
 // Runs of a sequence's program, in one memory or another.
-use crate::executables::{add_files, first};
-use crate::reach::tells;
 use o2_base::{Bytes, NoMemory};
 use o2_cli::number;
 use o2_outer::{MemFiles, MemSink, MemSource, MemSwap};
-use o2_rows::executables::Files;
 use o2_rows::{Outside, words_in};
-use o2_sequences::Sequence;
+use o2_sequences::{Sequence, add_files, is_told, write_report};
+use row_parts::Files;
 use std::alloc::Global;
 
 /// A memory for 32 segments of 65,536 bytes, in paragraphs of 16: more than a step names and all that processes can lock.
@@ -82,59 +80,6 @@ fn outcome_in(
     Ok(outcome_of(status, &outside, console, report))
 }
 
-/// The lines of the start, 72 bytes of each process.
-static STARTS: &[u8; 576] = b"1 start CAL
-1 hold 000F by load
-1 hold 0017 by load
-1 hold 001F by load
-2 start CBL
-2 hold 000F by load
-2 hold 0017 by load
-2 hold 001F by load
-3 start CCL
-3 hold 000F by load
-3 hold 0017 by load
-3 hold 001F by load
-4 start CDL
-4 hold 000F by load
-4 hold 0017 by load
-4 hold 001F by load
-5 start CEL
-5 hold 000F by load
-5 hold 0017 by load
-5 hold 001F by load
-6 start CFL
-6 hold 000F by load
-6 hold 0017 by load
-6 hold 001F by load
-7 start CGL
-7 hold 000F by load
-7 hold 0017 by load
-7 hold 001F by load
-8 start CHL
-8 hold 000F by load
-8 hold 0017 by load
-8 hold 001F by load
-";
-
-/// Writes the whole report of the boundless machine.
-fn write_report(report: &mut Vec<u8>, sequence: &Sequence) -> Result<(), NoMemory> {
-    report.extend_from_slice(first(STARTS, 72, sequence.codes.len()))?;
-    report.extend_from_slice(sequence.world.lines.as_slice())?;
-    report.extend_from_slice(b"all ended\n")?;
-    Ok(())
-}
-
-/// Whether the lines of the boundless machine tell what it held when that was noted.
-fn is_told(sequence: &Sequence, report: &[u8]) -> bool {
-    let told = sequence
-        .codes
-        .len()
-        .saturating_mul(72)
-        .saturating_add(sequence.told);
-    tells(report.get(..told).unwrap_or(report), &sequence.noted)
-}
-
 /// Whether runs come to the report or to a front of it, each in a memory in the middle between one that was too small and one that wasn't. The
 /// last two of these differ by a paragraph.
 fn narrows(alloc: Global, sequence: &Sequence, report: &[u8]) -> Result<bool, NoMemory> {
@@ -163,6 +108,6 @@ fn comes_to(alloc: Global, sequence: &Sequence, report: &[u8]) -> Result<bool, N
 pub fn shows(alloc: Global, sequence: &Sequence) -> Result<(bool, bool), NoMemory> {
     let mut report = Vec::new(alloc);
     write_report(&mut report, sequence)?;
-    let is_told = is_told(sequence, &report);
-    Ok((is_told, comes_to(alloc, sequence, &report)?))
+    let told = is_told(sequence, &report);
+    Ok((told, comes_to(alloc, sequence, &report)?))
 }

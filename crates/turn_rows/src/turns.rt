@@ -7,14 +7,17 @@ use o2_base::{Bytes, NoMemory};
 use o2_machine::{Machine, Steps, Turn};
 use o2_open::{Session, open};
 use o2_outer::{MemFiles, MemSink, MemSource, SureSwap, SwapDevice};
-use o2_rows::executables::add_text;
-use o2_rows::{Fails, add_file, changed};
 use o2_words::Verb;
+use row_parts::executables::changed;
+use row_parts::{Files, add_file, add_text};
 use std::alloc::Global;
 use std::test::Fail;
 
 const KEYS: &str =
     "memory = 4096\nswap = 0\nsegments = 3\nquantum = 1000\nmodules = [\"a.exe\"]\nprocess = [{ module = \"HELLO\" }]\nbudget = ";
+
+/// The calls of a sink that fail, counted from 1, each with the number of bytes that it takes before.
+type Fails<'a> = &'a [(u64, usize)];
 
 /// What a machine goes to.
 #[derive(Drop)]
@@ -52,13 +55,12 @@ fn made_outside(
 /// Adds the machine file of one process with this budget, and the program that writes `hello` with some bytes changed.
 fn add_files(
     alloc: Global,
-    files: &mut Vec<(Bytes, Bytes)>,
+    files: &mut Files,
     budget: &str,
     changes: &[(usize, u8)],
 ) -> Result<(), NoMemory> {
     add_text(alloc, files, "a.toml", KEYS, budget)?;
-    let program = changed(alloc, changes)?;
-    add_file(alloc, files, b"a.exe", program.as_slice())
+    add_file(alloc, files, "a.exe", changed(alloc, changes)?)
 }
 
 /// Those files.

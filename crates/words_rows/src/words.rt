@@ -6,11 +6,15 @@ use std::test::Fail;
 
 /// Words that are a command, its verb and its operand.
 static COMMANDS: &str =
-    "exe;x|run;x|exe;exe|exe;run|run;help|exe;my file.exe|exe; -x|run;a=b|exe;=|run;x--help|exe;größe.exe|run;機械.toml|exe;\u{2212}x|exe;a,b\n@c|check;x|check;check|run;check|dump;x|dump;dump|bench;1|bench;9|bench;10|bench;64";
+    "exe;x|run;x|exe;exe|exe;run|run;help|exe;my file.exe|exe; -x|run;a=b|exe;=|run;x--help|exe;größe.exe|run;機械.toml|\
+     exe;\u{2212}x|exe;a,b\n@c|check;x|check;check|run;check|dump;x|dump;dump|bench;1|bench;9|bench;10|bench;64";
 
 /// Words that are none; a dot is no word at all.
 static OTHERS: &str =
-    ".|exe|run|x|exe;x;y|run;x;y|exe;run;x|exe;-x|run;-x|exe;-|exe;--|exe;--;x|exe;|run;|;x|EXE;x|Run;x|exe ;x|ex;x|check|check;|check;-x|check;x;y|chec;x|dump|dump;|dump;-x|exe;--help|run;--version|help;exe|--help;x|x;exe|bench|bench;0|bench;65|bench;00|bench;01|bench;001|bench;+1|bench;-1|bench; 1|bench;1 |bench;1;2|bench;x|bench;|bench;100|bench;65537|bench;1x|bench;0x1|bench;\u{0661}|Bench;1|1;bench";
+    ".|exe|run|x|exe;x;y|run;x;y|exe;run;x|exe;-x|run;-x|exe;-|exe;--|exe;--;x|exe;|run;|;x|EXE;x|Run;x|exe ;x|ex;x|\
+     check|check;|check;-x|check;x;y|chec;x|dump|dump;|dump;-x|exe;--help|run;--version|help;exe|--help;x|x;exe|bench|\
+     bench;0|bench;65|bench;00|bench;01|bench;001|bench;+1|bench;-1|bench; 1|bench;1 |bench;1;2|bench;x|bench;|\
+     bench;100|bench;65537|bench;1x|bench;0x1|bench;\u{0661}|Bench;1|1;bench";
 
 /// The words as the program has them.
 fn owned(alloc: Global, row: &str) -> Result<Vec<String>, NoMemory> {

@@ -1,5 +1,8 @@
-// What a report tells of who holds what, read line by line.
-use o2_rows::hex;
+// The report that the programs come to, and what it tells of who holds what, read line by line.
+use crate::files::first;
+use crate::sequence::Sequence;
+use o2_base::NoMemory;
+use row_parts::hex;
 
 /// Process, selector, and how often it holds it.
 type Row = (u16, u16, u32);
@@ -66,9 +69,62 @@ fn are_all(report: &str, rows: &[Row]) -> bool {
 }
 
 /// Whether the lines tell that just this is held, of fewer than ten processes.
-pub fn tells(report: &[u8], held: &[Row]) -> bool {
+fn tells(report: &[u8], held: &[Row]) -> bool {
     match str::from_utf8(report) {
         Ok(report) => are_told(report, held) && are_all(report, held),
         Err(_) => false,
     }
+}
+
+/// The lines of the start, 72 bytes of each process.
+static STARTS: &[u8; 576] = b"1 start CAL
+1 hold 000F by load
+1 hold 0017 by load
+1 hold 001F by load
+2 start CBL
+2 hold 000F by load
+2 hold 0017 by load
+2 hold 001F by load
+3 start CCL
+3 hold 000F by load
+3 hold 0017 by load
+3 hold 001F by load
+4 start CDL
+4 hold 000F by load
+4 hold 0017 by load
+4 hold 001F by load
+5 start CEL
+5 hold 000F by load
+5 hold 0017 by load
+5 hold 001F by load
+6 start CFL
+6 hold 000F by load
+6 hold 0017 by load
+6 hold 001F by load
+7 start CGL
+7 hold 000F by load
+7 hold 0017 by load
+7 hold 001F by load
+8 start CHL
+8 hold 000F by load
+8 hold 0017 by load
+8 hold 001F by load
+";
+
+/// Writes the whole report of the boundless machine.
+pub fn write_report(report: &mut Vec<u8>, sequence: &Sequence) -> Result<(), NoMemory> {
+    report.extend_from_slice(first(STARTS, 72, sequence.codes.len()))?;
+    report.extend_from_slice(sequence.world.lines.as_slice())?;
+    report.extend_from_slice(b"all ended\n")?;
+    Ok(())
+}
+
+/// Whether the lines of the boundless machine tell what it held when that was noted.
+pub fn is_told(sequence: &Sequence, report: &[u8]) -> bool {
+    let told = sequence
+        .codes
+        .len()
+        .saturating_mul(72)
+        .saturating_add(sequence.told);
+    tells(report.get(..told).unwrap_or(report), &sequence.noted)
 }

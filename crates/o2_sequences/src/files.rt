@@ -1,8 +1,8 @@
-// The executables of such processes, and the machine file.
+// The executables of the processes, and the machine file.
+use crate::opening::{AVAIL, NAMES};
+use crate::sequence::Sequence;
 use o2_base::NoMemory;
-use o2_rows::executables::{Files, add_file};
-use o2_sequences::{AVAIL, NAMES, Sequence};
-use row_parts::add_bytes;
+use row_parts::{Files, add_bytes, add_file};
 use std::alloc::Global;
 
 // All numbers in these texts are hexadecimal, and `00*3A` is so many bytes in a row.

@@ -1,10 +1,7 @@
 ghost use Rattle.std.specs.Prelude.{◌≤◌, length};
 
-mod cases;
-mod map;
-
-use cases::CASES;
-use map::{Reading, expected};
+use crate::cases::CASES;
+use crate::map::{Reading, expected};
 use o2_decode::decode;
 use o2_isa::Decoded;
 

@@ -1,7 +1,8 @@
 // Executables as texts, and the machine files over them.
 
-use o2_base::{Bytes, NoMemory};
-use row_parts::bytes_in;
+use crate::files::{Files, add_file, add_text};
+use crate::texts::bytes_in;
+use o2_base::NoMemory;
 use std::alloc::Global;
 
 // All numbers in these texts are hexadecimal, and `00*3A` is so many bytes in a row. `tools/ne.py` makes the files of listings: HELLO
@@ -40,32 +41,15 @@ A0 04 00 26 A2 FF 07 B8 FF FF 8E C0 A0 00 00 26 A2 FF 07 B8 FF FF 8E C0 26 A0 FF
 02 00 33 00 03 00*3 03 01 4A 00 01 00 8A 00 03 01 5E 00 01 00 05 00*5
 ";
 
-/// The files of a run, as pairs of a name and its bytes.
-pub type Files = Vec<(Bytes, Bytes)>;
-
-/// A file more.
-pub fn add_file(
-    alloc: Global,
-    files: &mut Files,
-    name: &str,
-    file: Vec<u8>,
-) -> Result<(), NoMemory> {
-    files.push((Bytes::from_slice(alloc, name.as_bytes())?, Bytes::new(file)))?;
-    Ok(())
-}
-
-/// A text file more, of two parts.
-pub fn add_text(
-    alloc: Global,
-    files: &mut Files,
-    name: &str,
-    front: &str,
-    rest: &str,
-) -> Result<(), NoMemory> {
-    let mut text = String::new(alloc);
-    text.push_str(front)?;
-    text.push_str(rest)?;
-    add_file(alloc, files, name, text.into_bytes())
+/// `hello` with some bytes changed; its code begins at B0h, and the ordinals of its two imports stand at D1h and D9h.
+pub fn changed(alloc: Global, changes: &[(usize, u8)]) -> Result<Vec<u8>, NoMemory> {
+    let mut file = bytes_in(alloc, HELLO)?;
+    for (at, byte) in changes {
+        if let Some(place) = file.get_mut(*at) {
+            *place = *byte;
+        }
+    }
+    Ok(file)
 }
 
 /// Two processes of MIX in turns of one step, but for `memory`, `swap` and `modules`.
