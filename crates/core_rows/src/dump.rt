@@ -1,9 +1,8 @@
 // Dumps over files, sinks and a swap device in memory.
-use o2_base::{Bytes, Fail, NoMemory};
+use o2_base::{Fail, NoMemory};
 use o2_dump::{Core, CoreFault, Place, State};
 use o2_gen::module;
-use o2_outer::{MemFiles, MemSink, MemSource, MemSwap};
-use o2_rows::{Answer, Outside, answer_of, words_in};
+use o2_rows::failing::{Answer, Failing, run};
 use row_parts::executables::HELLO;
 use row_parts::{Files, add_file, add_text, bytes_in};
 use std::alloc::Global;
@@ -39,38 +38,6 @@ static FRONT: [u8; 25] = [
 
 const LENGTH: usize = 4178;
 
-fn sink(alloc: Global, call: u64, front: usize) -> Result<MemSink, NoMemory> {
-    let mut fails = Vec::new(alloc);
-    if call > 0 {
-        fails.push((call, front))?;
-    }
-    MemSink::new(alloc, 1_048_576, fails)
-}
-
-fn device(alloc: Global, call: u64) -> Result<MemSwap, NoMemory> {
-    let mut fails = Vec::new(alloc);
-    if call > 0 {
-        fails.push(call)?;
-    }
-    MemSwap::new(alloc, 4_096, fails)
-}
-
-/// The calls that fail, each 0 where none does: a put of the console behind three bytes, a put of the report at once, and a call of the device.
-#[derive(Clone, Copy)]
-struct Failing {
-    console: u64,
-    report: u64,
-    swap: u64,
-}
-
-impl Failing {
-    const NONE: Failing = Failing {
-        console: 0,
-        report: 0,
-        swap: 0,
-    };
-}
-
 /// Adds both programs, and the machine file with these sizes and this rest.
 fn add_files(alloc: Global, list: &mut Files, sizes: &str, rest: &str) -> Result<(), NoMemory> {
     let bench = module(alloc)?;
@@ -80,46 +47,21 @@ fn add_files(alloc: Global, list: &mut Files, sizes: &str, rest: &str) -> Result
 }
 
 /// Those files.
-fn files_of(alloc: Global, sizes: &str, rest: &str) -> Result<MemFiles, NoMemory> {
+fn files_of(alloc: Global, sizes: &str, rest: &str) -> Result<Files, NoMemory> {
     let mut list = Vec::new(alloc);
     add_files(alloc, &mut list, sizes, rest)?;
-    Ok(MemFiles::new(list, Vec::new(alloc)))
+    Ok(list)
 }
 
-/// These files, an empty input, and sinks that fail so.
-fn outside_over(alloc: Global, files: MemFiles, failing: &Failing) -> Result<Outside, NoMemory> {
-    Ok(Outside {
-        files,
-        input: MemSource::new(Bytes::new(Vec::new(alloc)), Vec::new(alloc)),
-        console: sink(alloc, failing.console, 3)?,
-        report: sink(alloc, failing.report, 0)?,
-    })
-}
-
-/// What a dump over this comes to, where this call of the device fails.
-fn dump_over(
-    alloc: Global,
-    outside: Outside,
-    words: &[String],
-    call: u64,
-) -> Result<Answer, NoMemory> {
-    let mut swap = device(alloc, call)?;
-    let mut outside = outside;
-    let status = outside.run(alloc, words, &mut swap);
-    Ok(answer_of(&status, outside))
-}
-
-/// A dump of a machine file with these sizes and this rest.
-fn dumped(alloc: Global, sizes: &str, rest: &str, failing: &Failing) -> Result<Answer, NoMemory> {
-    let words = words_in(alloc, "dump a.toml")?;
-    let outside = outside_over(alloc, files_of(alloc, sizes, rest)?, failing)?;
-    dump_over(alloc, outside, words.as_slice(), failing.swap)
+/// A dump of a machine file with these sizes and this rest, where this call fails.
+fn dumped(alloc: Global, sizes: &str, rest: &str, failing: Failing) -> Result<Answer, NoMemory> {
+    run(alloc, "dump a.toml", files_of(alloc, sizes, rest)?, failing)
 }
 
 /// Whether it is the image of the program that has ended, whose report has all its lines.
 fn is_whole(answer: &Answer) -> bool {
     let image = answer.console.taken();
-    answer.status == 0
+    answer.has_status(0)
         && image.len() == LENGTH
         && image.starts_with(&FRONT)
         && answer
@@ -140,41 +82,52 @@ fn has_ended(core: &Core) -> bool {
     ended && list.len() == 1 && core.segments.as_slice().is_empty()
 }
 
-/// Whether some bytes are an image of that.
-fn shows_the_end(alloc: Global, image: &[u8]) -> bool {
-    match Core::read(alloc, image) {
-        Ok(core) => has_ended(&core),
-        Err(_) => false,
+/// How many blocks its segments have in swap.
+fn blocks_of(core: &Core) -> u64 {
+    let mut count = 0u64;
+    for entry in core.segments.as_slice() {
+        if let Place::Swap(blocks) = &entry.place {
+            count = count.saturating_add(blocks.as_slice().len() as u64);
+        }
     }
+    count
 }
 
-/// Why some bytes are no image; none where they are one, or there is no memory to read them.
-fn fault_of(alloc: Global, bytes: &[u8]) -> Option<CoreFault> {
+/// What some bytes are as an image: why they are none, or, where they are one, whether it has ended and how many blocks it has in swap.
+#[derive(Clone, Copy, PartialEq, Eq)]
+enum Seen {
+    Bad(CoreFault),
+    Image(bool, u64),
+    /// There was no memory to read them.
+    Unread,
+}
+
+/// What these bytes are.
+fn image_in(alloc: Global, bytes: &[u8]) -> Seen {
     match Core::read(alloc, bytes) {
-        Err(Fail::Bad(fault)) => Some(fault),
-        _ => None,
+        Ok(core) => Seen::Image(has_ended(&core), blocks_of(&core)),
+        Err(Fail::Bad(fault)) => Seen::Bad(fault),
+        Err(_) => Seen::Unread,
     }
 }
 
-/// The dump of the first program in the smallest memory, where this put of the console fails, or none of them where this is 0.
+/// The dump of the first program in the smallest memory, where this put of the console fails behind three bytes, or none of them where this is 0.
 fn dump_hello(alloc: Global, console: u64) -> Result<Answer, NoMemory> {
-    let failing = Failing {
-        console,
-        ..Failing::NONE
-    };
-    dumped(alloc, SMALLEST, OF_HELLO, &failing)
+    dumped(alloc, SMALLEST, OF_HELLO, Failing::Console(console, 3))
 }
 
 #[test]
 fn hello_is_dumped(rt: HostRuntime) -> Result<(), test::Fail> {
     let answer = dump_hello(rt.alloc(), 0)?;
-    assert!(rt; is_whole(&answer) && shows_the_end(rt.alloc(), answer.console.taken()));
+    assert!(rt;
+        is_whole(&answer) && image_in(rt.alloc(), answer.console.taken()) == Seen::Image(true, 0)
+    );
     Ok(())
 }
 
 /// Whether some bytes are no image for this reason.
 fn is_refused(alloc: Global, bytes: &[u8], fault: CoreFault) -> bool {
-    fault_of(alloc, bytes) == Some(fault)
+    image_in(alloc, bytes) == Seen::Bad(fault)
 }
 
 /// Whether the front of an image is refused, and an image with a byte more, with another last byte, and cut.
@@ -207,7 +160,7 @@ fn a_damaged_image_is_refused(rt: HostRuntime) -> Result<(), test::Fail> {
 fn is_cut(answer: &Answer, whole: &Answer) -> bool {
     let front = answer.console.taken();
     let is_front = whole.console.taken().starts_with(front);
-    let has_failed = answer.status == 7 && front.len() < LENGTH;
+    let has_failed = answer.has_status(7) && front.len() < LENGTH;
     is_front && (has_failed || is_whole(answer)) && answer.report.taken() == whole.report.taken()
 }
 
@@ -243,12 +196,12 @@ fn each_put_of_an_image_fails(rt: HostRuntime) -> Result<(), test::Fail> {
 /// The sizes of a machine with one process of a bench; the put of the report and the call of the device that fail; and then the status, the end of the
 /// report, and whether there is an image.
 static STOPS: &str = "
-memory = 4096:swap = 4096;0;0;8;stop room;image
-memory = 4096:swap = 4096;21;0;8;;none
+memory = 4096:swap = 64;0;0;8;stop room;image
+memory = 4096:swap = 64;21;0;8;;none
 memory = 32768:swap = 2;0;0;9;stop swap full;image
-memory = 32768:swap = 4096;0;1;10;stop swap fault;none
-memory = 32768:swap = 4096;0;0;0;all ended;image
-memory = 32768:swap = 4096;1;0;7;;none
+memory = 32768:swap = 64;0;1;10;stop swap fault;none
+memory = 32768:swap = 64;0;0;0;all ended;image
+memory = 32768:swap = 64;1;0;7;;none
 ";
 
 fn field(row: &str, k: usize) -> &str {
@@ -270,21 +223,20 @@ fn write_sizes(sizes: &mut String, row: &str) -> Result<(), NoMemory> {
 
 /// The dump of the machine of a row.
 fn dump_row(alloc: Global, row: &str) -> Result<Answer, NoMemory> {
-    let failing = Failing {
-        console: 0,
-        report: number_at(row, 1),
-        swap: number_at(row, 2),
+    let failing = match number_at(row, 1) {
+        0 => Failing::Swap(number_at(row, 2)),
+        call => Failing::Report(call, 0),
     };
     let mut sizes = String::new(alloc);
     write_sizes(&mut sizes, row)?;
-    dumped(alloc, sizes.as_str(), OF_BENCH, &failing)
+    dumped(alloc, sizes.as_str(), OF_BENCH, failing)
 }
 
 /// Whether there is an image, or nothing where there is to be none.
 fn has_image(alloc: Global, answer: &Answer, wanted: &str) -> bool {
     let image = answer.console.taken();
     if wanted == "image" {
-        Core::read(alloc, image).is_ok()
+        matches!(image_in(alloc, image), Seen::Image(..))
     } else {
         image.is_empty()
     }
@@ -294,7 +246,7 @@ fn has_image(alloc: Global, answer: &Answer, wanted: &str) -> bool {
 fn is_answer(alloc: Global, answer: &Answer, row: &str) -> bool {
     let report = answer.report.taken();
     let text = report.strip_suffix(b"\n".as_slice()).unwrap_or(report);
-    u64::from(answer.status) == number_at(row, 3)
+    answer.has_status((number_at(row, 3) % 256) as u8)
         && text.ends_with(field(row, 4).as_bytes())
         && has_image(alloc, answer, field(row, 5))
 }
@@ -322,37 +274,15 @@ fn stops(rt: HostRuntime) -> Result<(), test::Fail> {
 /// of blocks, with all in use.
 static FULL: &str = "memory = 32768\nswap = 3\n";
 
-fn blocks_of(core: &Core) -> u64 {
-    let mut count = 0u64;
-    for entry in core.segments.as_slice() {
-        if let Place::Swap(blocks) = &entry.place {
-            count = count.saturating_add(blocks.as_slice().len() as u64);
-        }
-    }
-    count
-}
-
-/// How many blocks an image has, none where some bytes are no image.
-fn blocks_in(alloc: Global, image: &[u8]) -> u64 {
-    match Core::read(alloc, image) {
-        Ok(core) => blocks_of(&core),
-        Err(_) => 0,
-    }
-}
-
 /// The dump of that machine where a call of the device fails, or none of them where this is 0.
 fn dump_full(alloc: Global, swap: u64) -> Result<Answer, NoMemory> {
-    let failing = Failing {
-        swap,
-        ..Failing::NONE
-    };
-    dumped(alloc, FULL, OF_BENCH, &failing)
+    dumped(alloc, FULL, OF_BENCH, Failing::Swap(swap))
 }
 
 /// Whether a dump failed behind its run: some bytes of the image are put, not all, and nothing more to the report.
 fn is_unread(answer: &Answer, whole: &Answer) -> bool {
     let front = answer.console.taken();
-    answer.status == 10
+    answer.has_status(10)
         && front.len() < whole.console.taken().len()
         && whole.console.taken().starts_with(front)
         && answer.report.taken() == whole.report.taken()
@@ -360,7 +290,7 @@ fn is_unread(answer: &Answer, whole: &Answer) -> bool {
 
 /// Whether a dump failed in its run, and has no image.
 fn has_stopped(answer: &Answer) -> bool {
-    answer.status == 10
+    answer.has_status(10)
         && answer.console.taken().is_empty()
         && answer.report.taken().ends_with(b"stop swap fault\n")
 }
@@ -414,13 +344,13 @@ fn count_unread(alloc: Global, whole: &Answer) -> Result<Option<u64>, NoMemory> 
 /// How many blocks the whole image has, and how many of them are read for it; none where the run isn't stopped for want of blocks.
 fn blocks_and_reads(alloc: Global) -> Result<Option<(u64, u64)>, NoMemory> {
     let whole = dump_full(alloc, 0)?;
-    if whole.status != 9 || !whole.report.taken().ends_with(b"stop swap full\n") {
+    if !whole.has_status(9) || !whole.report.taken().ends_with(b"stop swap full\n") {
         return Ok(None);
     }
-    let blocks = blocks_in(alloc, whole.console.taken());
-    match count_unread(alloc, &whole)? {
-        Some(unread) => Ok(Some((blocks, unread))),
-        None => Ok(None),
+    let unread = count_unread(alloc, &whole)?;
+    match (image_in(alloc, whole.console.taken()), unread) {
+        (Seen::Image(_, blocks), Some(unread)) => Ok(Some((blocks, unread))),
+        _ => Ok(None),
     }
 }
 

@@ -66,11 +66,14 @@ pub struct Answer {
 }
 
 impl Answer {
+    /// Whether it came to this status.
+    pub fn has_status(&self, status: u8) -> bool {
+        number(&self.status) == status
+    }
+
     /// Whether it came to this status, with this console and report.
     pub fn is(&self, status: u8, console: &[u8], report: &[u8]) -> bool {
-        number(&self.status) == status
-            && self.console.taken() == console
-            && self.report.taken() == report
+        self.has_status(status) && self.console.taken() == console && self.report.taken() == report
     }
 
     /// Whether nothing was written.
