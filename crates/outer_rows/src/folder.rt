@@ -110,13 +110,8 @@ fn passes(rt: &HostRuntime, trial: Trial) -> io::Result<bool> {
 }
 
 #[test]
-fn blocks_in_a_file_of_the_folder(rt: HostRuntime) -> Result<(), Fail> {
-    assert!(rt; passes(&rt, Trial::Cut)?);
-    Ok(())
-}
-
-#[test]
-fn a_folder_of_the_swap_files_name(rt: HostRuntime) -> Result<(), Fail> {
-    assert!(rt; passes(&rt, Trial::Hindered)?);
+fn a_swap_device_in_a_file_of_the_folder(rt: HostRuntime) -> Result<(), Fail> {
+    let passed = [passes(&rt, Trial::Cut)?, passes(&rt, Trial::Hindered)?];
+    assert_eq!(rt; passed, [true, true]);
     Ok(())
 }

@@ -44,29 +44,10 @@ impl Write for Narrow {
     }
 }
 
-/// A sink over such a writer.
-fn sink_over(fails: usize) -> StreamSink<Narrow> {
-    StreamSink::new(Narrow {
-        bytes: [0; 5],
-        len: 0,
-        writes: 0,
-        fails,
-    })
-}
-
 /// Whether a sink of five bytes takes a piece whole, nothing of an empty one, and of the next one what it has room for.
-fn takes_five(sink: &mut StreamSink<Narrow>) -> bool {
-    let puts = [sink.put(b"abc"), sink.put(b""), sink.put(b"def")];
-    puts == [Put::Done, Put::Done, Put::Failed] && sink.stream().holds(b"abcde")
-}
-
-#[test]
-fn a_piece_is_written_byte_by_byte_and_fails_where_nothing_is_taken(
-    rt: HostRuntime,
-) -> Result<(), Fail> {
-    let mut sink = sink_over(0);
-    assert!(rt; takes_five(&mut sink));
-    Ok(())
+fn takes_five(sink: &mut StreamSink<Narrow>, first: &[u8], five: &[u8]) -> bool {
+    let puts = [sink.put(first), sink.put(b""), sink.put(b"def")];
+    puts == [Put::Done, Put::Done, Put::Failed] && sink.stream().holds(five)
 }
 
 /// Whether a sink fails at a piece of which it has this front then, and takes the next one whole.
@@ -77,11 +58,35 @@ fn holds_front(sink: &mut StreamSink<Narrow>, front: &[u8], both: &[u8]) -> bool
     failed && held && done && sink.stream().holds(both)
 }
 
+/// Writes that fail, or none, and what a sink has taken of its first piece then, and behind the last one.
+static FRONTS: [(usize, &str, &str); 4] = [
+    (0, "abc", "abcde"),
+    (1, "", "de"),
+    (2, "a", "ade"),
+    (3, "ab", "abde"),
+];
+
+/// Whether a new sink over a writer that fails at this write, or at none, has taken that. Where none fails, it has room for five bytes alone.
+fn has_taken(fails: usize, front: &str, both: &str) -> bool {
+    let mut sink = StreamSink::new(Narrow {
+        bytes: [0; 5],
+        len: 0,
+        writes: 0,
+        fails,
+    });
+    if fails == 0 {
+        takes_five(&mut sink, front.as_bytes(), both.as_bytes())
+    } else {
+        holds_front(&mut sink, front.as_bytes(), both.as_bytes())
+    }
+}
+
 #[test]
-fn a_piece_holds_what_was_taken_before_an_error(rt: HostRuntime) -> Result<(), Fail> {
-    for (fails, front, both) in [(1usize, "", "de"), (2, "a", "ade"), (3, "ab", "abde")] {
-        let mut sink = sink_over(fails);
-        assert!(rt; holds_front(&mut sink, front.as_bytes(), both.as_bytes()));
+fn a_sink_writes_byte_by_byte_and_holds_what_was_taken_before_it_fails(
+    rt: HostRuntime,
+) -> Result<(), Fail> {
+    for (fails, front, both) in FRONTS.iter() {
+        assert!(rt; has_taken(*fails, front, both), "{fails}");
     }
     Ok(())
 }
@@ -178,21 +183,6 @@ impl Read for Halting {
     }
 }
 
-/// A source over such a reader.
-fn source_over(
-    alloc: Global,
-    fails: usize,
-    pauses: usize,
-) -> Result<StreamSource<Halting>, NoMemory> {
-    let reader = Halting {
-        at: 0,
-        reads: 0,
-        fails,
-        pauses,
-    };
-    StreamSource::new(alloc, reader)
-}
-
 /// Whether a take that fails loses nothing of seven bytes.
 fn gives_later(source: &mut StreamSource<Halting>) -> bool {
     let mut two = [0u8; 2];
@@ -208,36 +198,38 @@ fn gives_later(source: &mut StreamSource<Halting>) -> bool {
         && five == *b"cdefg"
 }
 
-/// The same of a new source that fails at this read.
-fn fails_at(alloc: Global, fails: usize) -> Result<bool, NoMemory> {
-    let mut source = source_over(alloc, fails, 0)?;
-    Ok(gives_later(&mut source))
-}
-
-#[test]
-fn bytes_before_an_error_are_given_later(rt: HostRuntime) -> Result<(), Fail> {
-    for fails in 1..6usize {
-        assert!(rt; fails_at(rt.alloc(), fails)?);
-    }
-    Ok(())
-}
-
 /// Whether a source has these bytes left, which are fewer than wanted, and then none.
 fn gives(source: &mut StreamSource<Halting>, into: &mut [u8], bytes: &[u8]) -> bool {
     let takes = [source.take(into), source.take(&mut [0u8; 5])];
     takes == [Took::Done(bytes.len()), Took::Done(0)] && into.starts_with(bytes)
 }
 
-#[test]
-fn a_take_ends_early_at_the_end_alone(rt: HostRuntime) -> Result<(), Fail> {
-    let mut source = source_over(rt.alloc(), 0, 0)?;
-    assert!(rt; gives(&mut source, &mut [0u8; 9], b"abcdefg"));
-    Ok(())
+/// Whether a source over a reader that fails at this read loses nothing then, and where it fails at none ends early at its end alone:
+/// behind all bytes, or behind two where the third read gives nothing.
+fn is_right(alloc: Global, fails: usize, pauses: usize) -> Result<bool, NoMemory> {
+    let reader = Halting {
+        at: 0,
+        reads: 0,
+        fails,
+        pauses,
+    };
+    let mut source = StreamSource::new(alloc, reader)?;
+    Ok(match (fails, pauses) {
+        (0, 0) => gives(&mut source, &mut [0u8; 9], b"abcdefg"),
+        (0, _) => gives(&mut source, &mut [0u8; 5], b"ab"),
+        _ => gives_later(&mut source),
+    })
 }
 
+/// Reads that fail, and reads that give nothing.
+static HALTS: [(usize, usize); 7] = [(1, 0), (2, 0), (3, 0), (4, 0), (5, 0), (0, 0), (0, 3)];
+
 #[test]
-fn an_input_that_has_ended_is_read_no_more(rt: HostRuntime) -> Result<(), Fail> {
-    let mut source = source_over(rt.alloc(), 0, 3)?;
-    assert!(rt; gives(&mut source, &mut [0u8; 5], b"ab"));
+fn a_source_gives_later_what_was_before_an_error_and_reads_no_more_behind_its_end(
+    rt: HostRuntime,
+) -> Result<(), Fail> {
+    for (fails, pauses) in HALTS.iter() {
+        assert!(rt; is_right(rt.alloc(), *fails, *pauses)?, "{fails} {pauses}");
+    }
     Ok(())
 }
