@@ -1,5 +1,5 @@
-//! Rows of `o2_store`: segments that share a small memory, and long runs beside a plain model.
+//! Rows of `o2_store`: segments that share a small memory, as texts of calls with their answers.
 #![tactic(auto)]
 
 #[cfg(test)]
-mod store;
+mod sharing;

@@ -1,6 +1,6 @@
 use Rattle.std.proofs.Common.{arith}
-use Rattle.store_rows.proofs.Fresh.{pictured_fresh, clean_fresh}
-use Rattle.store_rows.proofs.store.sharing.wrong_in.Goals as goal
+use Rattle.store_calls.proofs.Fresh.{pictured_fresh, clean_fresh}
+use Rattle.store_rows.proofs.sharing.wrong_in.Goals as goal
 
 pub wrong_over-requires-clause-ready : goal.wrong_over-requires-clause-ready
 wrong_over-requires-clause-ready c =

@@ -4,13 +4,14 @@ ghost use Rattle.o2_outer.specs.Devices.{mem_blocks};
 ghost use Rattle.o2_store.specs.Pictures.{HasPicture};
 ghost use Rattle.o2_store.specs.Trials.{IsReady};
 
-use super::calls::{add, add_environment, bring, evict, lock, remove, resize, touch, write};
 use o2_base::{Bytes, NoMemory};
 use o2_image::Images;
 use o2_outer::{MemSwap, SwapDevice};
 use o2_place::SegId;
 use o2_store::{Brought, Store};
 use std::alloc::Global;
+use std::test::Fail;
+use store_calls::{add, add_environment, bring, evict, lock, remove, resize, touch, write};
 
 /// A segment as it should be.
 #[derive(Drop)]
@@ -23,14 +24,6 @@ struct Segment {
 /// What is wrong, unless it holds.
 fn must(holds: bool, text: &'static str) -> Result<(), &'static str> {
     if holds { Ok(()) } else { Err(text) }
-}
-
-/// The same of a call that takes memory.
-fn had_memory(taken: Result<(), NoMemory>) -> Result<(), &'static str> {
-    match taken {
-        Ok(()) => Ok(()),
-        Err(_) => Err("no memory"),
-    }
 }
 
 /// The next number below a bound that looks random.
@@ -116,7 +109,10 @@ fn begin<S: SwapDevice>(
         add(store, images, swap, size)
     };
     match id {
-        Some(id) => had_memory(begin_plain(all, id, size, clean, alloc)),
+        Some(id) => must(
+            begin_plain(all, id, size, clean, alloc).is_ok(),
+            "no memory",
+        ),
         None => Ok(()),
     }
 }
@@ -440,38 +436,29 @@ fn memory_of(k: u32) -> u32
     1024 * (1 + k)
 }
 
-/// Runs in each memory.
-fn run_memories(alloc: Global, images: &Images) -> Result<(), &'static str>
+/// Runs in each memory, and over devices of which each call fails in turn.
+fn run_each(alloc: Global, images: &Images) -> Result<(), &'static str>
     requires { HasPicture images.now 0 1 }
 {
     for k in 0..7 {
         run(alloc, images, memory_of(k), 0, 1000)?;
     }
-    Ok(())
-}
-
-/// Runs over devices, at each of whose calls one fails.
-fn run_devices(alloc: Global, images: &Images) -> Result<(), &'static str>
-    requires { HasPicture images.now 0 1 }
-{
     for call in 1..120 {
         run(alloc, images, 2048, call, 150)?;
     }
     Ok(())
 }
 
-/// What is wrong with one of the runs.
-fn run_each(alloc: Global, images: &Images) -> Result<(), &'static str>
-    requires { HasPicture images.now 0 1 }
-{
-    run_memories(alloc, images)?;
-    run_devices(alloc, images)
-}
-
 /// The same, with their images.
-pub fn run_all(alloc: Global) -> Result<(), &'static str> {
+fn run_all(alloc: Global) -> Result<(), &'static str> {
     match environment(alloc) {
         Ok(images) => run_each(alloc, &images),
         Err(_) => Err("no memory"),
     }
+}
+
+#[test]
+fn segments_are_byte_lists(rt: HostRuntime) -> Result<(), Fail> {
+    run_all(rt.alloc())?;
+    Ok(())
 }

@@ -3,7 +3,7 @@ use Rattle.o2_entries.specs.declared.Attr.{Attr}
 use Rattle.o2_entries.specs.Tables.{slot_at}
 use Rattle.o2_store.proofs.Tables.{within_at}
 use Rattle.o2_store.proofs.Ready.{ready_lock, attr_by, live_by}
-use Rattle.store_rows.proofs.store.calls.lock.Goals as goal
+use Rattle.store_calls.proofs.calls.lock.Goals as goal
 
 pub returns-clause-ready : goal.returns-clause-ready
 returns-clause-ready g c =

@@ -1,5 +1,5 @@
 use Rattle.o2_store.specs.Trials.{IsReady}
-use Rattle.store_rows.proofs.store.plain.bring_each.Given as goal
+use Rattle.model_rows.proofs.plain.bring_each.Given as goal
 
 abbrev pub invariant-loop-segment : goal.invariant-loop-segment
 invariant-loop-segment g l = IsReady l.store l.images (g.S.SwapDevice.blocks l.swap)

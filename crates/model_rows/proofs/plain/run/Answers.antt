@@ -1,6 +1,6 @@
 use Rattle.std.proofs.Common.{arith}
-use Rattle.store_rows.proofs.Fresh.{pictured_fresh, clean_fresh}
-use Rattle.store_rows.proofs.store.plain.run.Goals as goal
+use Rattle.store_calls.proofs.Fresh.{pictured_fresh, clean_fresh}
+use Rattle.model_rows.proofs.plain.run.Goals as goal
 
 pub with_device-requires-clause-ready : goal.with_device-requires-clause-ready
 with_device-requires-clause-ready c =

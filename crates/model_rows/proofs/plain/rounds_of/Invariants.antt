@@ -1,7 +1,7 @@
 use Rattle.std.proofs.Common.{◌≤◌, length}
 use Rattle.o2_outer.specs.Devices.{mem_blocks}
 use Rattle.o2_store.specs.Trials.{IsReady}
-use Rattle.store_rows.proofs.store.plain.rounds_of.Given as goal
+use Rattle.model_rows.proofs.plain.rounds_of.Given as goal
 
 abbrev pub invariant-loop-round : goal.invariant-loop-round
 invariant-loop-round l = record {

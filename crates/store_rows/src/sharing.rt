@@ -2,13 +2,14 @@
 ghost use Rattle.std.specs.Prelude.{◌≡◌, ◌+◌, ◌<◌, ◌≤◌, ◌^◌};
 ghost use Rattle.o2_store.specs.Trials.{IsReady};
 
-use super::calls::{add, bring, evict, resize, write};
 use o2_base::NoMemory;
 use o2_image::Images;
 use o2_outer::{Dev, SureSwap, SwapDevice};
 use o2_place::SegId;
 use o2_store::{Brought, Place, Store};
 use std::alloc::Global;
+use std::test::Fail;
+use store_calls::{add, bring, evict, resize, write};
 
 /// Two segments of 600 and 700 bytes.
 static TWO: &str = "
@@ -229,10 +230,16 @@ fn wrong(alloc: Global, sizes: (u32, u32), text: &'static str) -> Result<&'stati
 }
 
 /// The same of both texts.
-pub fn wrong_line(alloc: Global) -> Result<&'static str, NoMemory> {
+fn wrong_line(alloc: Global) -> Result<&'static str, NoMemory> {
     let line = wrong(alloc, (600, 700), TWO)?;
     if !line.is_empty() {
         return Ok(line);
     }
     wrong(alloc, (16, 16), CHANGED)
+}
+
+#[test]
+fn segments_share_the_memory(rt: HostRuntime) -> Result<(), Fail> {
+    assert_eq!(rt; wrong_line(rt.alloc())?, "");
+    Ok(())
 }
