@@ -1,8 +1,8 @@
 // A swap block that changes between two turns: what a segment holds that was swapped out is what its blocks hold.
 
-ghost use Rattle.memory_rows.specs.Going.{IsGoing};
+ghost use Rattle.machine_parts.specs.Going.{IsGoing};
 
-use crate::machines::{Outside, other_answer};
+use machine_parts::{Outside, other_answer};
 use o2_machine::{Machine, Turn};
 use o2_outer::{Dev, SwapDevice};
 

@@ -24,19 +24,8 @@ fn machine_file(alloc: Global, keys: &str) -> Result<String, AllocError> {
 }
 
 /// The machine file, and the module in `a.exe`.
-fn add_files(alloc: Global, files: &mut Files, keys: &str) -> Result<(), NoMemory> {
-    add_file(
-        alloc,
-        files,
-        "a.toml",
-        machine_file(alloc, keys)?.into_bytes(),
-    )?;
+pub fn add_files(alloc: Global, files: &mut Files, keys: &str) -> Result<(), NoMemory> {
+    let machine = machine_file(alloc, keys)?.into_bytes();
+    add_file(alloc, files, "a.toml", machine)?;
     add_file(alloc, files, "a.exe", bytes_in(alloc, READ_AGAIN)?)
-}
-
-/// Both files.
-pub fn files_of(alloc: Global, keys: &str) -> Result<Files, NoMemory> {
-    let mut files = Vec::new(alloc);
-    add_files(alloc, &mut files, keys)?;
-    Ok(files)
 }

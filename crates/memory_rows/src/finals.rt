@@ -1,8 +1,8 @@
 // Machines that stop for what the next step needs, or for their device: each later turn gives the same answer, and writes nothing.
 
-ghost use Rattle.memory_rows.specs.Going.{IsGoing};
+ghost use Rattle.machine_parts.specs.Going.{IsGoing};
 
-use crate::machines::{Outside, other_answer, put};
+use machine_parts::{Outside, is_final, other_answer};
 use o2_machine::{Machine, Turn};
 use o2_outer::SwapDevice;
 
@@ -10,6 +10,7 @@ use o2_outer::SwapDevice;
 pub fn wrong_of<S: SwapDevice>(
     machine: &mut Machine,
     outside: &mut Outside,
+    later: &mut Outside,
     swap: &mut S,
     answer: Turn,
     line: &str,
@@ -22,8 +23,7 @@ pub fn wrong_of<S: SwapDevice>(
     if !outside.report.taken().ends_with(line.as_bytes()) {
         return "another line is the last one";
     }
-    let before = put(outside);
-    if other_answer(machine, outside, swap, 3, answer) != answer || put(outside) != before {
+    if !is_final(machine, later, swap, answer) {
         return "a later turn isn't the same";
     }
     ""

@@ -8,6 +8,4 @@ mod files;
 #[cfg(test)]
 mod finals;
 #[cfg(test)]
-mod machines;
-#[cfg(test)]
 mod rows;
