@@ -1,7 +1,5 @@
-//! Rows of `o2_conf` and `o2_sched`: machine files with what they say, and whose steps come by them.
+//! Rows of `o2_conf`: machine files with what they say.
 #![tactic(auto)]
 
 #[cfg(test)]
 mod conf;
-#[cfg(test)]
-mod sched;

@@ -1,0 +1,5 @@
+//! Rows of `o2_sched`: whose steps come by a machine file.
+#![tactic(auto)]
+
+#[cfg(test)]
+mod sched;
