@@ -131,8 +131,10 @@ class Table:
             name, _, more = call.partition(" ")
             for number in range(int(first), int(last) + 1, int(step)):
                 self.step(f"{name} {number} | {number:04X} | {more}", heading, line)
-        elif verb in ("run", "ends", "shows", "tells", "fronts"):
+        elif verb in ("run", "ends", "shows", "tells", "fronts", "cuts", "survives", "walk", "sequence"):
             self.run(verb, rest, heading, line)
+        elif verb in ("is", "image"):
+            return
         else:
             self.change(verb, rest, line)
 
@@ -157,6 +159,9 @@ class Table:
             for change in text.split():
                 place, _, byte = change.partition("=")
                 self.part(name)[int(place, 16)] = int(byte, 16)
+        elif verb == "flip":
+            place, _, mask = text.partition(" ")
+            self.part(name)[int(place)] ^= int(mask, 16)
         elif verb == "cut":
             del self.part(name)[int(text) :]
         elif verb == "fill":
@@ -181,7 +186,7 @@ class Table:
         if heading in HEADINGS and (verb, status) == ("run", "0") and not self.is_failing:
             self.runs.append(self.row(line, *words.split(",")))
         self.is_failing = False
-        for name in ("console", "report", "line", "lines", "stop", "counts"):
+        for name in ("console", "report", "line", "lines", "stop", "counts", "pieces"):
             self.part(name).clear()
 
     def row(self, line, command, name):

@@ -1,11 +1,15 @@
 // Statements, one after the other.
 
 use crate::acts::write_act;
+use crate::answers::Answer;
 use crate::changes::decimal;
+use crate::images::image_line;
 use crate::macros::Macros;
 use crate::parts::Parts;
 use crate::programs::program;
 use crate::runs::{Devices, SURE, run_command};
+use crate::sequences::is_shown;
+use crate::walks::walk;
 use o2_base::NoMemory;
 use std::alloc::Global;
 
@@ -40,7 +44,7 @@ fn write_wrong(text: &mut String, statement: &str, line: &str) -> Result<(), NoM
     Ok(())
 }
 
-/// Puts calls of a macro onto the statements that are to be taken, the first one last: one for each number from the first to the last, which
+/// Puts calls of a macro onto the statements that are to be taken, the first one last: one for each number from the first on up to the last, which
 /// is its first argument, and as four hexadecimal digits its second.
 fn put_calls(
     alloc: Global,
@@ -56,10 +60,17 @@ fn put_calls(
         .unwrap_or(0)
         .saturating_add(1);
     for k in 0..count {
-        let number = last.saturating_sub(step.saturating_mul(k));
+        let number = first.saturating_add(step.saturating_mul(
+            count.saturating_sub(1).saturating_sub(k),
+        ));
         pending.push(format!(in alloc; "{name} {number} | {number:04X} | {rest}")?)?;
     }
     Ok(())
+}
+
+/// A decimal number below 65,536.
+fn number(text: &str) -> u32 {
+    (decimal(text) % 65_536) as u32
 }
 
 impl Bench {
@@ -127,7 +138,12 @@ impl Bench {
         let (verb, rest) = parted(statement);
         match verb {
             "" | "#" => Ok(true),
-            "run" | "ends" | "shows" | "tells" | "fronts" => self.run(alloc, verb, rest),
+            "run" | "ends" | "shows" | "tells" | "fronts" | "cuts" => self.run(alloc, verb, rest),
+            "survives" => self.survives(alloc, rest),
+            "walk" => self.walk(alloc, rest),
+            "sequence" => self.sequence(alloc, rest),
+            "is" => Ok(self.is(rest)),
+            "image" => self.image(alloc, rest),
             "each" => self.each(alloc, rest),
             "acts" => self.acts(alloc, rest),
             "fail" => Ok(self.fail(rest)),
@@ -213,13 +229,10 @@ impl Bench {
         Ok(true)
     }
 
-    /// Runs a command, and tells whether it comes to what it must.
-    fn run(&mut self, alloc: Global, verb: &str, rest: &str) -> Result<bool, NoMemory> {
-        let (statuses, words) = parted(rest);
-        let answer = run_command(alloc, words, &self.parts, &self.devices)?;
-        let is_right = answer.is_right(verb, statuses, &self.parts);
+    /// Counts a run that came to what it must, and makes all ready for the next one.
+    fn end(&mut self, is_right: bool) -> bool {
         self.parts
-            .empty_all("console report line lines stop counts");
+            .empty_all("console report line lines stop counts pieces");
         self.devices = Devices {
             blocks: self.devices.blocks,
             ..SURE
@@ -227,6 +240,68 @@ impl Bench {
         if is_right {
             self.right = self.right.saturating_add(1);
         }
-        Ok(is_right)
+        is_right
+    }
+
+    /// Puts what a run has shown and told, and which byte it misses, in the place of what the last one had.
+    fn keep(&mut self, alloc: Global, answer: &Answer) -> Result<(), NoMemory> {
+        let missed = answer.missed(alloc)?;
+        self.parts.empty_all("last-console last-report missed");
+        self.parts
+            .add(alloc, "last-console", answer.console.taken())?;
+        self.parts.add(alloc, "last-report", answer.report.taken())?;
+        self.parts.add(alloc, "missed", missed.as_bytes())
+    }
+
+    /// Runs a command, and tells whether it comes to what it must.
+    fn run(&mut self, alloc: Global, verb: &str, rest: &str) -> Result<bool, NoMemory> {
+        let (statuses, words) = parted(rest);
+        let answer = run_command(alloc, words, &self.parts, &self.devices)?;
+        self.keep(alloc, &answer)?;
+        let is_right = answer.is_right(verb, statuses, &self.parts);
+        Ok(self.end(is_right))
+    }
+
+    /// Runs a command, and tells whether a module of these names is refused or the run is over.
+    fn survives(&mut self, alloc: Global, rest: &str) -> Result<bool, NoMemory> {
+        let (names, words) = parted(rest);
+        let answer = run_command(alloc, words, &self.parts, &self.devices)?;
+        Ok(self.end(answer.is_told(names)))
+    }
+
+    /// Has each call of the swap device fail in turn: the first one behind so many lines at least, the last one behind so many at least, and there are so
+    /// many at least.
+    fn walk(&mut self, alloc: Global, rest: &str) -> Result<bool, NoMemory> {
+        let (first, rest) = parted(rest);
+        let (last, rest) = parted(rest);
+        let (calls, words) = parted(rest);
+        let is_right = match walk(alloc, words, &self.parts, &self.devices, decimal(first))? {
+            Some(walked) => {
+                decimal(last) <= walked.lines && decimal(calls) as u64 <= walked.calls
+            }
+            None => false,
+        };
+        Ok(self.end(is_right))
+    }
+
+    /// A sequence of calls at random, by its seed, how many calls each process makes, and which of them the world misses.
+    fn sequence(&mut self, alloc: Global, rest: &str) -> Result<bool, NoMemory> {
+        let (seed, rest) = parted(rest);
+        let (calls, misses) = parted(rest);
+        let is_right = is_shown(alloc, number(seed), number(calls), number(misses))?;
+        Ok(self.end(is_right))
+    }
+
+    /// Whether this text stands under a name.
+    fn is(&self, rest: &str) -> bool {
+        let (name, text) = parted(rest);
+        self.parts.bytes(name) == text.as_bytes()
+    }
+
+    /// Whether what stands under a name is a core image of which this is told, or none for this reason.
+    fn image(&self, alloc: Global, rest: &str) -> Result<bool, NoMemory> {
+        let (name, text) = parted(rest);
+        let line = image_line(alloc, self.parts.bytes(name))?;
+        Ok(line.as_str() == text)
     }
 }

@@ -36,8 +36,17 @@ fn set_bytes(bytes: &mut [u8], changes: &str) {
     }
 }
 
+/// Turns the bits of a mask in one byte, `17 80`: a decimal place, and a hexadecimal mask.
+fn flip(bytes: &mut [u8], change: &str) {
+    if let Some((place, mask)) = change.split_once(' ') {
+        if let Some(byte) = bytes.get_mut(decimal(place)) {
+            *byte ^= (hex(mask) % 256) as u8;
+        }
+    }
+}
+
 /// Changes bytes by a statement, and tells whether it is one: `bytes` with hexadecimal numbers behind them, `text` with a line, `part`
-/// with a text, `lines` with lines that ` / ` parts, `set` with places and bytes, `cut` to a length, `fill` with zeros up to a length.
+/// with a text, `lines` with lines that ` / ` parts, `set` with places and bytes, `flip` with a place and a mask, `cut` to a length, `fill` with zeros up to a length.
 pub fn change(bytes: &mut Vec<u8>, verb: &str, rest: &str) -> Result<bool, NoMemory> {
     match verb {
         "bytes" => add_bytes(bytes, rest)?,
@@ -45,6 +54,7 @@ pub fn change(bytes: &mut Vec<u8>, verb: &str, rest: &str) -> Result<bool, NoMem
         "part" => bytes.extend_from_slice(rest.as_bytes())?,
         "lines" => add_lines(bytes, rest)?,
         "set" => set_bytes(bytes.as_mut_slice(), rest),
+        "flip" => flip(bytes.as_mut_slice(), rest),
         "cut" => bytes.truncate(decimal(rest)),
         "fill" => bytes.resize(decimal(rest), 0)?,
         _ => return Ok(false),

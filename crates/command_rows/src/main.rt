@@ -3,12 +3,17 @@
 #![tactic(auto)]
 
 mod acts;
+mod answers;
 mod bench;
 mod changes;
+mod images;
 mod macros;
+mod outside;
 mod parts;
 mod programs;
 mod runs;
+mod sequences;
+mod walks;
 
 use bench::Bench;
 use std::io;

@@ -18,7 +18,7 @@ pub struct Parts {
 }
 
 /// The length of so many lines of a text with so many bytes behind them.
-fn front_len(text: &[u8], lines: usize, more: usize) -> usize {
+pub fn front_len(text: &[u8], lines: usize, more: usize) -> usize {
     let mut left = lines;
     let mut len = 0usize;
     for byte in text {

@@ -1,8 +1,8 @@
-//! What the crates of rows share, whatever they test: the bytes of a text, numbers that look random, executables, and the files of a run.
+//! What the crates of rows share, whatever they test: the bytes of a text, numbers that look random, an executable, and the files of a run.
 #![tactic(auto)]
 
-pub mod executables;
 mod files;
+pub mod hello;
 mod numbers;
 mod texts;
 

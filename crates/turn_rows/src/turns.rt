@@ -4,7 +4,7 @@ use machine_parts::{Outside, Plan, Trial, first_wrong, is_final, other_answer};
 use o2_base::NoMemory;
 use o2_machine::{Machine, Steps, Turn};
 use o2_outer::SwapDevice;
-use row_parts::executables::changed;
+use row_parts::hello::changed;
 use row_parts::{Files, add_file, add_text};
 use std::alloc::Global;
 use std::test::Fail;

@@ -29,10 +29,10 @@ impl Outside {
     }
 }
 
-/// The words of a text, which blanks part.
+/// The words of a command, which commas part.
 pub fn words_in(alloc: Global, text: &str) -> Result<Vec<String>, NoMemory> {
     let mut words = Vec::new(alloc);
-    for word in text.split_ascii_whitespace() {
+    for word in text.split(',') {
         words.push(String::from_str(alloc, word)?)?;
     }
     Ok(words)

@@ -1,9 +1,11 @@
-// Runs of a sequence's program, in one memory or another.
+// Sequences of calls at random, of one to eight processes: the program's texts must be those that the calls come to in the world of the boundless
+// machine, in ample memory and in the least, and their lines must tell what is held behind the calls.
+
+use crate::outside::{Outside, words_in};
 use o2_base::{Bytes, NoMemory};
 use o2_cli::number;
 use o2_outer::{MemFiles, MemSink, MemSource, MemSwap};
-use o2_rows::{Outside, words_in};
-use o2_sequences::{Sequence, add_files, is_told, write_report};
+use o2_sequences::{Sequence, add_files, is_told, random_sequence, write_report};
 use row_parts::Files;
 use std::alloc::Global;
 
@@ -28,7 +30,7 @@ fn outside(alloc: Global, files: Files, input: &[u8]) -> Result<Outside, NoMemor
 
 /// The status of `run m`.
 fn run(alloc: Global, outside: &mut Outside) -> Result<u8, NoMemory> {
-    let words = words_in(alloc, "run m")?;
+    let words = words_in(alloc, "run,m")?;
     let mut swap = MemSwap::new(alloc, BLOCKS, Vec::new(alloc))?;
     let status = outside.run(alloc, words.as_slice(), &mut swap);
     Ok(number(&status))
@@ -104,10 +106,18 @@ fn comes_to(alloc: Global, sequence: &Sequence, report: &[u8]) -> Result<bool, N
     }
 }
 
-/// Whether the lines tell what is held behind the calls, and whether the program comes to what they come to, in ample memory and in the least.
-pub fn shows(alloc: Global, sequence: &Sequence) -> Result<(bool, bool), NoMemory> {
+/// Whether the lines of a sequence tell what is held behind its calls, and the program comes to what they come to, in ample memory and in the least,
+/// or to something else if that is wanted.
+fn shows(alloc: Global, sequence: &Sequence, wanted: bool) -> Result<bool, NoMemory> {
     let mut report = Vec::new(alloc);
     write_report(&mut report, sequence)?;
-    let told = is_told(sequence, &report);
-    Ok((told, comes_to(alloc, sequence, &report)?))
+    let comes = comes_to(alloc, sequence, &report)?;
+    Ok(is_told(sequence, &report) && comes == wanted)
+}
+
+/// Whether that is so of a sequence at random of so many calls for each process, of which the world misses each of the given number; 0 is none, and
+/// then the program must come to what the calls come to, else to something else.
+pub fn is_shown(alloc: Global, seed: u32, calls: u32, misses: u32) -> Result<bool, NoMemory> {
+    let sequence = random_sequence(alloc, seed, calls, misses)?;
+    shows(alloc, &sequence, misses == 0)
 }
