@@ -1,6 +1,5 @@
 // A store, and the tables of one process over it.
-ghost use Rattle.std.specs.Prelude.{◌≡◌, ◌-◌, ◌<◌, ◌≤◌, ◌^◌, IfOk, IfSome};
-ghost use Rattle.o2_service.specs.Needs.{AreLive};
+ghost use Rattle.std.specs.Prelude.{◌≡◌, ◌-◌, ◌<◌, ◌≤◌, ◌^◌, IfOk};
 ghost use Rattle.bus_rows.specs.Trials.{IsReady};
 
 use crate::seats::{are_seated, named};
@@ -12,8 +11,9 @@ use o2_outer::SureSwap;
 use o2_place::SegId;
 use o2_regions::{Cause, Held, Region, Regions};
 use o2_segbus::{SegBus, attempt};
-use o2_service::{Need, Served, serve};
+use o2_service::{Served, serve};
 use o2_store::Store;
+use service_calls::live_need;
 use std::alloc::Global;
 
 /// How many segments are ever made.
@@ -30,18 +30,6 @@ pub struct Bench {
     pub images: Images,
     /// The swap device, which never fails.
     pub swap: SureSwap,
-}
-
-// What is needed, if all of it is live.
-fn live_need(store: &Store, pairs: &[(SegId, u32)]) -> Option<Need>
-    ensures { IfSome result (λ n. AreLive store.now n) }
-{
-    for k in 0..pairs.len() {
-        if store.size(pairs[k].0).is_none() {
-            return None;
-        }
-    }
-    Need::new(pairs)
 }
 
 impl Bench {

@@ -1,7 +1,6 @@
 // What is needed comes into small memories, over a device that may fail.
-ghost use Rattle.std.specs.Prelude.{◌≡◌, ◌+◌, ◌<◌, ◌≤◌, ◌^◌, IfOk, IfSome};
+ghost use Rattle.std.specs.Prelude.{◌≡◌, ◌≤◌};
 ghost use Rattle.o2_store.specs.Trials.{IsReady};
-ghost use Rattle.o2_service.specs.Needs.{AreLive};
 ghost use Rattle.o2_service.specs.Trials.{IsUnheld};
 
 use o2_base::NoMemory;
@@ -9,17 +8,12 @@ use o2_image::Images;
 use o2_outer::{MemSwap, SwapDevice};
 use o2_place::SegId;
 use o2_regions::Regions;
-use o2_service::{Need, Served, serve};
-use o2_store::{Attr, Store};
+use o2_service::{Need, Served};
+use o2_store::Store;
+use service_calls::{bring, nobody};
 use std::alloc::Global;
 use std::test::Fail;
-
-const PLAIN: Attr = Attr {
-    flags: 0,
-    lock: 0,
-    clean: false,
-    shared: false,
-};
+use store_calls::{add, write};
 
 #[test]
 fn a_need_has_sixteen_segments(rt: HostRuntime) {
@@ -31,76 +25,6 @@ fn a_need_has_sixteen_segments(rt: HostRuntime) {
     assert!(rt; pushes == [true, false] && Need::new(&[(id, 0); 17]).is_none());
     assert!(rt; need.pairs().len() == 16);
     assert!(rt; need.ids()[14] == id && need.pairs()[15] == (other, 6));
-}
-
-// Adds a segment of 32 zeros.
-fn add<S: SwapDevice>(store: &mut Store, images: &Images, swap: &S) -> Result<SegId, Fail>
-    requires ready { IsReady store.old images.now (S.blocks swap.now) }
-    requires few { store.old.made < 2 ^ 32 }
-    ensures ready { IsReady store.new images.now (S.blocks swap.now) }
-    ensures few { store.new.made ≤ store.old.made + 1 }
-{
-    store.law();
-    Ok(store.add_zero(32, PLAIN).ok_or("a segment")?)
-}
-
-// Writes a byte into a segment that is in memory and isn't clean, and tells whether it is one.
-fn mark<S: SwapDevice>(store: &mut Store, images: &Images, swap: &S, id: SegId) -> bool
-    requires { IsReady store.old images.now (S.blocks swap.now) }
-    ensures { IsReady store.new images.now (S.blocks swap.now) }
-{
-    store.law();
-    let Some(_at) = store.base(id) else {
-        return false;
-    };
-    let Some(attr) = store.attr(id) else {
-        return false;
-    };
-    let Some(size) = store.size(id) else {
-        return false;
-    };
-    if attr.clean || 0 >= size {
-        return false;
-    }
-    store.put(id, 0, &[7]);
-    true
-}
-
-// A process that holds nothing.
-fn nobody(alloc: Global) -> Result<Regions, NoMemory>
-    ensures { IfOk result (λ r. IsUnheld r) }
-{
-    let regions = Regions::new(alloc, 1)?;
-    Ok(regions)
-}
-
-// What is needed, if all of it is live.
-fn live_need(store: &Store, pairs: &[(SegId, u32)]) -> Option<Need>
-    ensures { IfSome result (λ n. AreLive store.now n) }
-{
-    for k in 0..pairs.len() {
-        if store.size(pairs[k].0).is_none() {
-            return None;
-        }
-    }
-    Need::new(pairs)
-}
-
-// Brings in what is needed, and tells what that came to.
-fn bring<S: SwapDevice>(
-    store: &mut Store,
-    regions: &mut Regions,
-    images: &Images,
-    swap: &mut S,
-    pairs: &[(SegId, u32)],
-) -> Option<Served>
-    requires ready { IsReady store.old images.now (S.blocks swap.old) }
-    requires unheld { IsUnheld regions.old }
-    ensures ready { IsReady store.new images.now (S.blocks swap.new) }
-    ensures unheld { IsUnheld regions.new }
-{
-    let need = live_need(store, pairs)?;
-    Some(serve(&need, store, regions, images, swap))
 }
 
 // The segment of a letter.
@@ -131,7 +55,7 @@ fn served_of(word: &str) -> Served {
     }
 }
 
-// A part of a script: `mark` writes into the second segment; in `b:17 a = here c` two segments are needed, that comes to Here, and
+// A part of a script: `write` writes into the second segment; in `b:17 a = here c` two segments are needed, that comes to Here, and
 // the third is out of memory then.
 fn does<S: SwapDevice>(
     store: &mut Store,
@@ -148,7 +72,7 @@ fn does<S: SwapDevice>(
     ensures unheld { IsUnheld regions.new }
 {
     let Some((need, rest)) = part.split_once(" = ") else {
-        return Ok(mark(store, images, swap, ids[1]));
+        return Ok(write(store, images, swap, ids[1], 0, 7));
     };
     let pairs = pairs_in(alloc, ids, need)?;
     let (served, out) = rest.split_once(' ').unwrap_or((rest, ""));
@@ -169,9 +93,9 @@ fn first_wrong<S: SwapDevice>(
     requires ready { IsReady store.old images.now (S.blocks swap.old) }
     requires none { store.old.made ≡ 0 }
 {
-    let a = add(store, images, swap)?;
-    let b = add(store, images, swap)?;
-    let c = add(store, images, swap)?;
+    let a = add(store, images, swap, 32).ok_or("a segment")?;
+    let b = add(store, images, swap, 32).ok_or("a segment")?;
+    let c = add(store, images, swap, 32).ok_or("a segment")?;
     for part in script.split(" / ") {
         if !does(store, regions, images, swap, [a, b, c], part, alloc)? {
             return Ok(part);
@@ -198,7 +122,7 @@ fn went_wrong(
 
 #[test]
 fn a_failing_device_changes_nothing(rt: HostRuntime) -> Result<(), Fail> {
-    let script = "a b = here c / mark / c a = fault c / c a = here b / b a = here c";
+    let script = "a b = here c / write / c a = fault c / c a = here b / b a = here c";
     let fails = vec![in rt.alloc(); 1u64]?;
     assert_eq!(rt; went_wrong(rt.alloc(), 8, fails, script)?, "");
     Ok(())
@@ -206,7 +130,7 @@ fn a_failing_device_changes_nothing(rt: HostRuntime) -> Result<(), Fail> {
 
 #[test]
 fn a_full_swap_is_told(rt: HostRuntime) -> Result<(), Fail> {
-    let script = "a b = here c / mark / c a = full c";
+    let script = "a b = here c / write / c a = full c";
     let fails = Vec::new(rt.alloc());
     assert_eq!(rt; went_wrong(rt.alloc(), 0, fails, script)?, "");
     Ok(())

@@ -1,5 +1,5 @@
 use Rattle.o2_service.proofs.Unheld.{unheld_after, unheld_settled, unheld_well}
-use Rattle.service_rows.proofs.service.bring.Goals as goal
+use Rattle.service_calls.proofs.calls.bring.Goals as goal
 
 pub serve-requires-clause-held : goal.serve-requires-clause-held
 serve-requires-clause-held g c = unheld_well c.args.store.now c.args.regions.now c.requires.unheld
