@@ -14,7 +14,7 @@ use o2_store::Store;
 use std::alloc::Global;
 
 /// The tables of a process that holds nothing.
-pub fn nobody(alloc: Global) -> Result<Regions, NoMemory>
+pub(crate) fn nobody(alloc: Global) -> Result<Regions, NoMemory>
     ensures { IfOk result (λ r. IsUnheld r) }
 {
     let regions = Regions::new(alloc, 1)?;
@@ -34,7 +34,7 @@ pub fn live_need(store: &Store, pairs: &[(SegId, u32)]) -> Option<Need>
 }
 
 /// Brings in what is needed, and tells what that came to; none where it isn't live.
-pub fn bring<S: SwapDevice>(
+pub(crate) fn bring<S: SwapDevice>(
     store: &mut Store,
     regions: &mut Regions,
     images: &Images,
