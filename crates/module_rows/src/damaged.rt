@@ -1,5 +1,5 @@
 // Random executables with a record that leads nowhere: the first such record is told.
-use crate::made::{Made, Placed, len_of, make, set_word, unmade};
+use module_parts::{Made, Placed, len_of, make, set_word, unmade};
 use o2_base::{Bytes, Fail as ReadFail, ModuleFault, NoMemory};
 use o2_image::Module;
 use row_parts::next;

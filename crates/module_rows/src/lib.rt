@@ -4,6 +4,4 @@
 #[cfg(test)]
 mod damaged;
 #[cfg(test)]
-mod made;
-#[cfg(test)]
 mod read;

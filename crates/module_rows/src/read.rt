@@ -1,5 +1,5 @@
 // Whether random executables are read as they were written.
-use crate::made::{CALLED, ENTRIES, Made, Named, make, unmade};
+use module_parts::{CALLED, ENTRIES, Made, Named, make, unmade};
 use o2_base::{Bytes, NoMemory};
 use o2_image::Module;
 use row_parts::next;

@@ -16,11 +16,11 @@ static FRONT: &str = "
 04 4D 41 44 45 00 00
 ";
 
-// The imported names, with their offsets.
+/// The imported names, with their offsets.
 pub static CALLED: [(u16, &str); 4] = [(1, "DOSCALLS"), (10, "OTHER"), (16, "abc"), (20, "z")];
 
-// The ordinals that the entry table defines, each with its segment and its offset: two of segment 1, two that aren't defined, two
-// movable ones, 253 that aren't defined in two bundles, and one of segment 1.
+/// The ordinals that the entry table defines, each with its segment and its offset: two of segment 1, two that aren't defined, two
+/// movable ones, 253 that aren't defined in two bundles, and one of segment 1.
 pub static ENTRIES: [(u16, u8, u16); 5] = [
     (1, 1, 0x0102),
     (2, 1, 0x0304),
@@ -37,7 +37,7 @@ static KINDS: [(Kind, u16); 4] = [
     (Kind::ReadOnly, 0x81),
 ];
 
-// A record by its segment from 1 and its number from 0, and where it stands in the file.
+/// A record by its segment from 1 and its number from 0, and where it stands in the file.
 #[derive(Clone, Copy)]
 pub struct Placed {
     pub segment: u16,
@@ -46,7 +46,7 @@ pub struct Placed {
     pub reloc: Reloc,
 }
 
-// A name by where it stands in the file and how long it is, with its ordinal.
+/// A name by where it stands in the file and how long it is, with its ordinal.
 #[derive(Clone, Copy)]
 pub struct Named {
     pub at: usize,
@@ -54,7 +54,7 @@ pub struct Named {
     pub ordinal: u16,
 }
 
-// What a file must be read as.
+/// What a file must be read as.
 #[derive(Drop)]
 pub struct Made {
     pub file: Vec<u8>,
@@ -64,7 +64,7 @@ pub struct Made {
     pub references: Vec<u16>,
 }
 
-// Nothing yet.
+/// Nothing yet.
 pub fn unmade(alloc: Global) -> Made {
     Made {
         file: Vec::new(alloc),
@@ -89,13 +89,14 @@ fn set_byte(file: &mut Vec<u8>, at: u32, byte: u8) {
     }
 }
 
+/// Writes a word, of at most 65,535, at a place of a file.
 pub fn set_word(file: &mut Vec<u8>, at: u32, n: u32) {
     let [low, high] = ((n % 65_536) as u16).to_le_bytes();
     set_byte(file, at, low);
     set_byte(file, at.wrapping_add(1), high);
 }
 
-// The length of a file, which is short.
+/// The length of a file, which is short.
 pub fn len_of(file: &Vec<u8>) -> u32 {
     (file.len() % 65_536) as u32
 }
@@ -306,7 +307,7 @@ fn add_others(made: &mut Made, seed: u32) -> Result<(), NoMemory> {
     add_names(made, seed, 14, (below(next(seed), 12) % 12) as u16)
 }
 
-// Makes a random file, with what it must be read as.
+/// Makes a random file, with what it must be read as.
 pub fn make(made: &mut Made, seed: u32) -> Result<(), NoMemory> {
     let segments = below(seed, 5).wrapping_add(2);
     let references = below(next(seed), 3).wrapping_add(1);
