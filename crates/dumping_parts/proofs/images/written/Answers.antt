@@ -1,6 +1,6 @@
 use Rattle.std.proofs.Common.{ℕ, ◌≤◌, subst, sym}
 use Rattle.o2_swapmap.specs.Piles.{all_of}
-use Rattle.dumping_rows.proofs.written.written.Goals as goal
+use Rattle.dumping_parts.proofs.images.written.Goals as goal
 
 pub returns : goal.returns
 returns c = record {
