@@ -109,13 +109,13 @@ module _ (v : View) (p : Pointer) where
   -- the name behind the pointer, where it has one, is present
   names_present : (w : View) (o : Option Hold) → ((h : Hold) → o ≡ Some h → v.present h.name ≡ true) → ArePresent v (passed w o p [])
   names_present w None present = none_named v
-  names_present w (Some h) present = names_at v h.name (is_for_es w p.selector && p.good h.rights) (nat_le (p.offset + p.count) (length (w.bytes h.name))) (present h refl)
+  names_present w (Some h) present = names_at v h.name (is_for_es w p.selector) (p.good h.rights && nat_le (p.offset + p.count) (length (w.bytes h.name))) (present h refl)
 
   -- no name passes
-  names_none : (w : View) (o : Option Hold) → ((h : Hold) → o ≡ Some h → (is_for_es w p.selector && p.good h.rights) ≡ false) → ArePresent v (passed w o p [])
+  names_none : (w : View) (o : Option Hold) → ((h : Hold) → o ≡ Some h → is_for_es w p.selector ≡ false) → ArePresent v (passed w o p [])
   names_none w None refuses = none_named v
   names_none w (Some h) refuses =
-      subst (λ (a : Bool). ArePresent v (cond a (h.name ∷ cond (nat_le (p.offset + p.count) (length (w.bytes h.name))) [] []) [])) (sym (refuses h refl)) (none_named v)
+      subst (λ (a : Bool). ArePresent v (cond a (h.name ∷ cond (p.good h.rights && nat_le (p.offset + p.count) (length (w.bytes h.name))) [] []) [])) (sym (refuses h refl)) (none_named v)
 
   by_count : (z : Bool) (w : View) → (p.count == 0) ≡ z → ArePresent v (cond z [] (passed w (bound_in w.held p.selector) p [])) → ArePresent v (pointed w (p ∷ []))
   by_count z w is h = subst (λ (y : Bool). ArePresent v (cond y [] (passed w (bound_in w.held p.selector) p []))) (sym is) h
@@ -138,25 +138,25 @@ module _ (v : View) (p : Pointer) where
     names = λ f. by_count true (boundless f v) zero (none_named v);
   }
 
-  -- what the selector names isn't good for the pointer
+  -- what the selector names can't be loaded into ES
   pub unfit : (p.count == 0) ≡ false
-      → ((f : Filling) (h : Hold) → bound_in v.held p.selector ≡ Some h → (is_for_es (boundless f v) p.selector && p.good h.rights) ≡ false) → IsBadTest v (p ∷ [])
+      → ((f : Filling) (h : Hold) → bound_in v.held p.selector ≡ Some h → is_for_es (boundless f v) p.selector ≡ false) → IsBadTest v (p ∷ [])
   unfolding is_good
   unfit some refuses = record {
     good = λ f. or_none (p.count == 0) _ some (by_hold f (bound_in v.held p.selector) (refuses f));
     names = λ f. by_count false (boundless f v) some (names_none (boundless f v) (bound_in v.held p.selector) (refuses f));
   }
     where
-      not_all : (a b c : Bool) → (a && b) ≡ false → (a && (b && c)) ≡ false
-      not_all a b c e = grind arith
+      not_all : (a b : Bool) → a ≡ false → (a && b) ≡ false
+      not_all a b e = grind arith
 
       never : (a : Bool) → (a && false) ≡ false
       never a = grind arith
 
-      by_hold : (f : Filling) (o : Option Hold) → ((h : Hold) → o ≡ Some h → (is_for_es (boundless f v) p.selector && p.good h.rights) ≡ false)
+      by_hold : (f : Filling) (o : Option Hold) → ((h : Hold) → o ≡ Some h → is_for_es (boundless f v) p.selector ≡ false)
           → (is_for_es (boundless f v) p.selector && has_range (boundless f v).bytes p.good p.offset p.count o) ≡ false
       by_hold f None no_hold = never (is_for_es (boundless f v) p.selector)
-      by_hold f (Some h) no_hold = not_all (is_for_es (boundless f v) p.selector) (p.good h.rights) _ (no_hold h refl)
+      by_hold f (Some h) no_hold = not_all (is_for_es (boundless f v) p.selector) _ (no_hold h refl)
 
   bytes_here : (f : Filling) (h : Hold) → v.present h.name ≡ true → (boundless f v).bytes h.name ≡ v.bytes h.name
   bytes_here f h here = ap (λ (b : Bool). cond b (v.bytes h.name) (v.hidden.away h.name f.blocks)) here
@@ -177,33 +177,33 @@ module _ (v : View) (p : Pointer) where
       all_good : (f : Filling) → (is_for_es (boundless f v) p.selector && has_range (boundless f v).bytes p.good p.offset p.count (bound_in v.held p.selector)) ≡ true
       all_good f = rw (es_boundless f v p.selector, es, is, bytes_here f h here, good, lies) refl
 
-  -- it is present, and the range doesn't lie in it
+  -- it is present, and it isn't good for the pointer, or the range doesn't lie in it
   pub exceeds : (p.count == 0) ≡ false → (h : Hold) → bound_in v.held p.selector ≡ Some h → v.present h.name ≡ true
-      → nat_le (p.offset + p.count) (length (v.bytes h.name)) ≡ false → IsBadTest v (p ∷ [])
+      → (p.good h.rights && nat_le (p.offset + p.count) (length (v.bytes h.name))) ≡ false → IsBadTest v (p ∷ [])
   unfolding is_good
   exceeds some h is here beyond = record {
     good = λ f. or_none (p.count == 0) _ some (none_good f);
     names = λ f. by_count false (boundless f v) some (names_present (boundless f v) (bound_in v.held p.selector) (only_hold h is here));
   }
     where
-      last_fails : (a b c : Bool) → c ≡ false → (a && (b && c)) ≡ false
-      last_fails a b c e = grind arith
+      last_fails : (a b : Bool) → b ≡ false → (a && b) ≡ false
+      last_fails a b e = grind arith
 
       none_good : (f : Filling) → (is_for_es (boundless f v) p.selector && has_range (boundless f v).bytes p.good p.offset p.count (bound_in v.held p.selector)) ≡ false
       none_good f =
           subst (λ (o : Option Hold). (is_for_es (boundless f v) p.selector && has_range (boundless f v).bytes p.good p.offset p.count o) ≡ false) (sym is)
-          (last_fails (is_for_es (boundless f v) p.selector) (p.good h.rights) _ (ap (λ (bs : List ℕ). nat_le (p.offset + p.count) (length bs)) (bytes_here f h here) ∙ beyond))
+          (last_fails (is_for_es (boundless f v) p.selector) _ (ap (λ (bs : List ℕ). p.good h.rights && nat_le (p.offset + p.count) (length bs)) (bytes_here f h here) ∙ beyond))
 
   -- it isn't present
   pub misses : (p.count == 0) ≡ false → is_for_es v p.selector ≡ true → (h : Hold) → found v p.selector ≡ Some h → bound_in v.held p.selector ≡ Some h
-      → v.present h.name ≡ false → p.good h.rights ≡ true → (f : Filling) → IsMissed v (selector p.selector) (pointed (boundless f v) (p ∷ []))
-  misses some es h found_it is absent good f = record { hold = h; found_it = found_it; absent = absent; named = named }
+      → v.present h.name ≡ false → (f : Filling) → IsMissed v (selector p.selector) (pointed (boundless f v) (p ∷ []))
+  misses some es h found_it is absent f = record { hold = h; found_it = found_it; absent = absent; named = named }
     where
       first : (n : ℕ) (rest : List ℕ) → is_in n (n ∷ rest) ≡ true
       first n rest = grind arith
 
       named : is_in h.name (pointed (boundless f v) (p ∷ [])) ≡ true
-      named = rw (some, is, es_boundless f v p.selector, es, good) (first h.name _)
+      named = rw (some, is, es_boundless f v p.selector, es) (first h.name _)
 
 -- Two pointers, one after the other.
 
@@ -235,7 +235,7 @@ names_split n w p qs = by_number (p.count == 0) (bound_in w.held p.selector)
     by_number : (z : Bool) (o : Option Hold) → is_in n (cond z rest (passed w o p rest)) ≡ true → (is_in n (cond z [] (passed w o p [])) ≡ true) ⊎ (is_in n rest ≡ true)
     by_number true o e = inr e
     by_number false None e = absurd (cc)
-    by_number false (Some h) e = by_tests h.name (is_for_es w p.selector && p.good h.rights) (nat_le (p.offset + p.count) (length (w.bytes h.name))) e
+    by_number false (Some h) e = by_tests h.name (is_for_es w p.selector) (p.good h.rights && nat_le (p.offset + p.count) (length (w.bytes h.name))) e
 
 present_split : (v w : View) (p : Pointer) (qs : List Pointer) → ArePresent v (pointed w (p ∷ [])) → ArePresent v (pointed w qs) → ArePresent v (pointed w (p ∷ qs))
 present_split v w p qs first rest n e = go (names_split n w p qs e)
@@ -259,23 +259,22 @@ module _ (n : ℕ) (w : View) (p : Pointer) (qs : List Pointer) where
   pub names_first : (z : Bool) (o : Option Hold) → is_in n (cond z [] (passed w o p [])) ≡ true → is_in n (cond z rest_of (passed w o p rest_of)) ≡ true
   names_first true o e = absurd (cc)
   names_first false None e = absurd (cc)
-  names_first false (Some h) e = first_in h.name (is_for_es w p.selector && p.good h.rights) (nat_le (p.offset + p.count) (length (w.bytes h.name))) e
+  names_first false (Some h) e = first_in h.name (is_for_es w p.selector) (p.good h.rights && nat_le (p.offset + p.count) (length (w.bytes h.name))) e
 
   -- the names behind a pointer that is good
-  behind_in : (m : ℕ) (a b r : Bool) → (a && (b && r)) ≡ true → is_in n rest_of ≡ true → is_in n (cond (a && b) (m ∷ cond r rest_of []) []) ≡ true
-  behind_in m true true true e here = longer m rest_of here
+  behind_in : (m : ℕ) (a r : Bool) → (a && r) ≡ true → is_in n rest_of ≡ true → is_in n (cond a (m ∷ cond r rest_of []) []) ≡ true
+  behind_in m true true e here = longer m rest_of here
     where
       longer : (m : ℕ) (xs : List ℕ) → is_in n xs ≡ true → is_in n (m ∷ xs) ≡ true
       longer m xs e = grind arith
-  behind_in m true true false e here = absurd (cc)
-  behind_in m true false r e here = absurd (cc)
-  behind_in m false b r e here = absurd (cc)
+  behind_in m true false e here = absurd (cc)
+  behind_in m false r e here = absurd (cc)
 
   behind_hold : (e : Bool) (o : Option Hold) → e ≡ is_for_es w p.selector → (e && has_range w.bytes p.good p.offset p.count o) ≡ true → is_in n rest_of ≡ true → is_in n (passed w o p rest_of) ≡ true
   behind_hold true None is q here = absurd (cc)
   behind_hold false None is q here = absurd (cc)
   behind_hold e (Some h) is q here =
-      behind_in h.name (is_for_es w p.selector) (p.good h.rights) (nat_le (p.offset + p.count) (length (w.bytes h.name)))
+      behind_in h.name (is_for_es w p.selector) (p.good h.rights && nat_le (p.offset + p.count) (length (w.bytes h.name)))
       (subst (λ (x : Bool). (x && has_range w.bytes p.good p.offset p.count (Some h)) ≡ true) is q) here
 
   names_behind : (z : Bool) → ((z || (is_for_es w p.selector && has_range w.bytes p.good p.offset p.count (bound_in w.held p.selector))) && true) ≡ true
@@ -287,15 +286,14 @@ module _ (n : ℕ) (w : View) (p : Pointer) (qs : List Pointer) where
       plain b e = grind arith
 
   -- none behind one that is bad
-  stop_in : (m : ℕ) (a b r : Bool) → (a && (b && r)) ≡ false → is_in n (cond (a && b) (m ∷ cond r rest_of []) []) ≡ true → is_in n (cond (a && b) (m ∷ cond r [] []) []) ≡ true
-  stop_in m true true true e here = absurd (cc)
-  stop_in m true true false e here = here
-  stop_in m true false r e here = absurd (cc)
-  stop_in m false b r e here = absurd (cc)
+  stop_in : (m : ℕ) (a r : Bool) → (a && r) ≡ false → is_in n (cond a (m ∷ cond r rest_of []) []) ≡ true → is_in n (cond a (m ∷ cond r [] []) []) ≡ true
+  stop_in m true true e here = absurd (cc)
+  stop_in m true false e here = here
+  stop_in m false r e here = absurd (cc)
 
   stop_hold : (o : Option Hold) → (is_for_es w p.selector && has_range w.bytes p.good p.offset p.count o) ≡ false → is_in n (passed w o p rest_of) ≡ true → is_in n (passed w o p []) ≡ true
   stop_hold None q here = here
-  stop_hold (Some h) q here = stop_in h.name (is_for_es w p.selector) (p.good h.rights) (nat_le (p.offset + p.count) (length (w.bytes h.name))) q here
+  stop_hold (Some h) q here = stop_in h.name (is_for_es w p.selector) (p.good h.rights && nat_le (p.offset + p.count) (length (w.bytes h.name))) q here
 
   pub names_stop : (z : Bool) → ((z || (is_for_es w p.selector && has_range w.bytes p.good p.offset p.count (bound_in w.held p.selector))) && true) ≡ false
       → is_in n (cond z rest_of (passed w (bound_in w.held p.selector) p rest_of)) ≡ true → is_in n (cond z [] (passed w (bound_in w.held p.selector) p [])) ≡ true

@@ -41,8 +41,8 @@ same_names w s o n m a b = counts (n == 0) (m == 0) (count_some n a) (count_some
     holds : (h : Option Hold) → passed w h (pointer false s o n) [] ≡ passed w h (pointer false s o m) []
     holds None = refl
     holds (Some h) =
-        ap (λ (ns : List ℕ). cond (is_for_es w s && is_readable h.rights) ns [])
-        (none_behind (nat_le (o + n) (length (w.bytes h.name))) (nat_le (o + m) (length (w.bytes h.name))) h)
+        ap (λ (ns : List ℕ). cond (is_for_es w s) ns [])
+        (none_behind (is_readable h.rights && nat_le (o + n) (length (w.bytes h.name))) (is_readable h.rights && nat_le (o + m) (length (w.bytes h.name))) h)
 
     counts : (x y : Bool) → x ≡ false → y ≡ false → passed w (bound_in w.held s) (pointer false s o n) [] ≡ passed w (bound_in w.held s) (pointer false s o m) []
         → cond x [] (passed w (bound_in w.held s) (pointer false s o n) []) ≡ cond y [] (passed w (bound_in w.held s) (pointer false s o m) [])

@@ -3,6 +3,9 @@ pub mod Pointed
 pub mod Called
 pub mod Names
 pub mod Gathers
+pub mod Shapes
+pub mod Shaped
+pub mod Targets
 pub mod Replies
 pub mod Pieces
 pub mod SharedReplies

@@ -1,7 +1,7 @@
 -- What a test of pointers tells.
 use Rattle.std.specs.Prelude.{◌≡◌, ℕ, ◌+◌, nat_le, Bool, true, false, not, ◌&&◌, ◌||◌, Option, Some, None, List, [], ◌∷◌, if◌then◌else◌}
 use Rattle.o2_base.specs.declared.selector.Selector.{Selector}
-use Rattle.o2_isa.specs.View.{View, Hold, Filling, is_readable, is_writable, is_null, found}
+use Rattle.o2_isa.specs.View.{View, Hold, Filling, is_readable, is_writable, found}
 use Rattle.o2_isa.specs.Presence.{IsMissed, is_in}
 use Rattle.o2_isa.specs.Pointers.{is_good, is_ready}
 use Rattle.o2_world.specs.declared.types.Transfer.{Transfer}
@@ -19,14 +19,14 @@ abbrev pub writes_to : Option Hold → Bool
 writes_to None = false
 writes_to (Some h) = is_writable h.rights
 
--- the selector is null, or it names nothing that can be written where bytes are to be written
-abbrev pub refuses : (writes : Bool) → View → (s : ℕ) → Bool
-refuses writes v s = is_null s || (writes && not (writes_to (found v s)))
-
 -- a range lies in what a selector names, by its size
 abbrev pub lies_within : View → (offset count : ℕ) → Option Hold → Bool
 lies_within v offset count None = false
 lies_within v offset count (Some h) = nat_le (offset + count) (v.size h.name)
+
+-- a range lies in what the selector names, which can be written where bytes are to be written
+abbrev pub allows : (writes : Bool) → View → (s offset count : ℕ) → Bool
+allows writes v s offset count = (not writes || writes_to (found v s)) && lies_within v offset count (found v s)
 
 abbrev pub are_good : View → List Pointer → Bool
 are_good v [] = true

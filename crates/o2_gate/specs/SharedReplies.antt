@@ -1,17 +1,15 @@
--- A call by which processes share segments: its arguments, and how it comes back.
-use Rattle.std.specs.Prelude.{◌≡◌, ℕ, ◌+◌, ◌≤◌, ◌==◌, false, true, List, [], ◌∷◌, Option, Some, None, if◌then◌else◌, codes}
+-- A call by which processes share segments: its arguments, and what it does.
+use Rattle.std.specs.Prelude.{◌≡◌, ℕ, ◌+◌, false, true, List, [], ◌∷◌, Option, codes}
 use Rattle.o2_base.specs.declared.selector.Selector.{Selector}
-use Rattle.o2_isa.specs.View.{View, Filling, Hold, is_readable}
+use Rattle.o2_isa.specs.View.{View, Filling, is_readable}
 use Rattle.o2_isa.specs.Presence.{IsMissed}
-use Rattle.o2_isa.specs.Pointers.{is_good, put_at_pointer}
-use Rattle.o2_world.specs.declared.types.Argument.{Argument}
+use Rattle.o2_isa.specs.Pointers.{is_good}
 use Rattle.o2_world.specs.declared.types.Argument.TheVariants.{Word, Far}
 use Rattle.o2_world.specs.Calls.{Before, Effect}
-use Rattle.o2_world.specs.SegmentCalls.{Written, ruled_at, written_word}
+use Rattle.o2_world.specs.SegmentCalls.{ruled_at, written_word}
 use Rattle.o2_world.specs.SharedCalls.{give_args, got, name_args}
 use Rattle.o2_world.specs.SharedNames.{before_zero, looked_at, name_by, name_most, text_at, text_size}
 use Rattle.o2_world.specs.SharedRulings.{giving, naming, sharing}
-use Rattle.o2_world.specs.World.{Line, Calls}
 use Rattle.o2_run.specs.Room.{Pointer, pointed}
 use Rattle.o2_gate.specs.declared.sharing.SharedArguments.{SharedArguments}
 use Rattle.o2_gate.specs.declared.sharing.SharedArguments.TheVariants.{Name, Share, Give, Get}
@@ -91,50 +89,3 @@ shared_targets (Name size t s o) = text_target t ∷ pointer true s o 2 ∷ []
 shared_targets (Share t s o) = text_target t ∷ pointer true s o 2 ∷ []
 shared_targets (Give selector pid s o) = pointer true s o 2 ∷ []
 shared_targets (Get selector) = []
-
--- How it comes back. At an error nothing is written.
-
-abbrev pub values_by : (error : ℕ) → Option Written → List Argument
-values_by error None = []
-values_by error (Some t) = if error == 0 then t.shown ∷ [] else []
-
-abbrev pub bytes_by : (error : ℕ) → Option Written → (ℕ → Option Hold) → (ℕ → List ℕ) → ℕ → List ℕ
-bytes_by error None held bytes = bytes
-bytes_by error (Some t) held bytes = if error == 0 then put_at_pointer held bytes t.selector t.offset t.part else bytes
-
-abbrev pub shared_name : SharedArguments → List ℕ
-shared_name (Name size t s o) = codes "DosAllocShrSeg"
-shared_name (Share t s o) = codes "DosGetShrSeg"
-shared_name (Give selector pid s o) = codes "DosGiveSeg"
-shared_name (Get selector) = codes "DosGetSeg"
-
-abbrev pub shared_words : SharedArguments → ℕ
-shared_words (Name size t s o) = 5
-shared_words (Share t s o) = 4
-shared_words (Give selector pid s o) = 4
-shared_words (Get selector) = 1
-
-abbrev pub shared_args : SharedArguments → List Argument
-shared_args (Name size t s o) = name_args size t.selector t.offset s o
-shared_args (Share t s o) = Far t.selector t.offset ∷ Far s o ∷ []
-shared_args (Give selector pid s o) = give_args selector pid s o
-shared_args (Get selector) = Word selector ∷ []
-
-abbrev pub shared_written : SharedArguments → (value : ℕ) → Option Written
-shared_written (Name size t s o) value = Some (written_word s o value)
-shared_written (Share t s o) value = Some (written_word s o value)
-shared_written (Give selector pid s o) value = Some (written_word s o value)
-shared_written (Get selector) value = None
-
-abbrev pub shared_line : SharedArguments → (number error value : ℕ) → Line
-shared_line a number error value = Calls number (shared_name a) (shared_args a) error (values_by error (shared_written a value))
-
-abbrev pub shared_bytes : SharedArguments → (error value : ℕ) → (ℕ → Option Hold) → (ℕ → List ℕ) → ℕ → List ℕ
-shared_bytes a error value = bytes_by error (shared_written a value)
-
--- a value that is a selector is a word
-abbrev pub IsSharedValue : SharedArguments → ℕ → Type 0
-IsSharedValue (Name size t s o) value = value ≤ 65535
-IsSharedValue (Share t s o) value = value ≤ 65535
-IsSharedValue (Give selector pid s o) value = value ≤ 65535
-IsSharedValue (Get selector) value = Unit {0}

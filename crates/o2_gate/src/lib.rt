@@ -12,6 +12,7 @@ mod pid;
 mod pointer;
 mod read;
 mod replying;
+mod shape;
 mod sharing;
 mod stack;
 mod state;

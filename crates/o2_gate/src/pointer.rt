@@ -3,7 +3,7 @@ ghost use Rattle.std.specs.Prelude.{◌≡◌, ◌+◌, ◌==◌, ◌∷◌, [],
 ghost use Rattle.o2_isa.specs.View.{Filling, is_readable, is_writable, whole, found};
 ghost use Rattle.o2_isa.specs.Pointers.{is_ready, range_of, put_at_pointer, KeepsAllButBytes};
 ghost use Rattle.o2_bus.specs.Writes.{WritesHeld};
-ghost use Rattle.o2_gate.specs.Pointed.{Tells, pointer, writes_to, lies_within, refuses};
+ghost use Rattle.o2_gate.specs.Pointed.{Tells, pointer, writes_to, lies_within, allows};
 
 use o2_base::Selector;
 use o2_bus::{Bus, Ranges};
@@ -43,15 +43,15 @@ fn is_within<B: Bus>(bus: &B, sel: Selector, offset: u16, count: u16) -> bool
     }
 }
 
-/// Whether a selector is null, or bytes are to be written and it names nothing that can be written.
-fn refuses<B: Bus>(bus: &B, writes: bool, sel: Selector) -> bool
-    ensures { result ≡ refuses writes (B.view bus.now) sel.0 }
+/// Whether a range lies in the segment that a selector names, which can be written where bytes are to be written.
+fn allows<B: Bus>(bus: &B, writes: bool, sel: Selector, offset: u16, count: u16) -> bool
+    ensures { result ≡ allows writes (B.view bus.now) sel.0 offset count }
 {
-    sel.0 < 4 || (writes && !names_writable(bus, sel))
+    (!writes || names_writable(bus, sel)) && is_within(bus, sel, offset, count)
 }
 
-/// Tests a pointer to bytes that are read, or written: its selector by the rules for loading ES, which a null one doesn't pass,
-/// and then its range. One of no bytes is not looked at.
+/// Tests a pointer to bytes that are read, or written: its selector by the rules for loading ES, which a null one doesn't pass;
+/// then that the segment is present; then its range, and the right to write. One of no bytes is not looked at.
 pub fn test<B: Bus>(bus: &mut B, writes: bool, selector: u16, offset: u16, count: u16) -> Pointed
     ensures tells { Tells (B.view bus.old) (pointer writes selector offset count ∷ []) result }
     ensures same { B.view bus.new ≡ B.view bus.old }
@@ -59,13 +59,13 @@ pub fn test<B: Bus>(bus: &mut B, writes: bool, selector: u16, offset: u16, count
     if count == 0 {
         return Pointed::Good;
     }
-    let sel = Selector(selector);
-    if refuses(bus, writes, sel) {
+    if selector < 4 {
         return Pointed::Bad;
     }
+    let sel = Selector(selector);
     match bus.probe(Purpose::DataReg, sel) {
         Loaded::Done => {
-            if is_within(bus, sel, offset, count) {
+            if allows(bus, writes, sel, offset, count) {
                 Pointed::Good
             } else {
                 Pointed::Bad

@@ -1,5 +1,5 @@
 // How a call on segments comes back: its value, its registers and its lines.
-ghost use Rattle.std.specs.Prelude.{◌≡◌, ◌<◌, ◌≤◌, ◌+◌, ◌==◌, ◌∷◌, [], ℕ, true, length, if◌then◌else◌};
+ghost use Rattle.std.specs.Prelude.{◌≡◌, ◌<◌, ◌≤◌, ◌+◌, ◌==◌, ◌∷◌, [], ℕ, true, length, take, if◌then◌else◌};
 ghost use Rattle.o2_outer.specs.Texts.{Rose};
 ghost use Rattle.o2_outer.specs.Answers.{Takes, Puts, OnFailed};
 ghost use Rattle.o2_isa.specs.View.{Filling, is_writable, whole};
@@ -10,14 +10,15 @@ ghost use Rattle.o2_world.specs.World.{Calls};
 ghost use Rattle.o2_gate.specs.Gathers.{targets};
 ghost use Rattle.o2_gate.specs.Pointed.{are_ready};
 ghost use Rattle.o2_gate.specs.MovedLines.{AreInside, all_lines, block_lines, line_at, lines_at};
-ghost use Rattle.o2_gate.specs.Replies.{IsValue, bytes_of, call_line, lines_of, name_of, words_of};
+ghost use Rattle.o2_gate.specs.Replies.{IsValue, bytes_by, bytes_of, lines_of, values_by, words_of};
+ghost use Rattle.o2_gate.specs.Shapes.{FitsIn, written_to};
+ghost use Rattle.o2_gate.specs.Targets.{target_pointers};
 ghost use Rattle.o2_bus.specs.Writes.{WritesHeld};
 
 use crate::gathering::SegmentArguments;
-use crate::huge::{HugeArguments, huge_words, set_huge, store_huge};
 use crate::moves::{Block, Moves};
 use crate::pointer::store;
-use crate::sharing::{SharedArguments, set_shared, shared_words, store_shared};
+use crate::shape::{Shape, Target, shape_of};
 use crate::stack::give_back;
 use o2_base::Selector;
 use o2_bus::Ranges;
@@ -26,26 +27,8 @@ use o2_outer::{Put, Sink};
 use o2_report::{LineBuffer, set_calls, set_drops, set_holds};
 use o2_world::Argument;
 
-/// How many words the arguments of a call take.
-fn words(arguments: SegmentArguments) -> u16
-    ensures words { result ≡ words_of arguments }
-    ensures few { result ≤ 6 }
-{
-    match arguments {
-        SegmentArguments::Alloc { .. } => 4,
-        SegmentArguments::Realloc { .. } => 2,
-        SegmentArguments::Free(_) => 1,
-        SegmentArguments::Size { .. } => 3,
-        SegmentArguments::Lock(_) => 1,
-        SegmentArguments::Unlock(_) => 1,
-        SegmentArguments::Alias { .. } => 3,
-        SegmentArguments::Shared(shared) => shared_words(&shared),
-        SegmentArguments::Huge(huge) => huge_words(&huge),
-    }
-}
-
 /// Writes a word behind a pointer that was found good.
-pub(crate) fn store_word<B: Ranges>(bus: &mut B, selector: u16, offset: u16, word: u16)
+fn store_word<B: Ranges>(bus: &mut B, selector: u16, offset: u16, word: u16)
     requires { is_ready is_writable (B.view bus.old) selector offset 2 ≡ true }
     ensures bytes { (f : Filling) (n : ℕ) → (whole f (B.view bus.new)).bytes n
         ≡ put_at_pointer (B.view bus.old).held (whole f (B.view bus.old)).bytes
@@ -77,43 +60,24 @@ fn store_long<B: Ranges>(bus: &mut B, selector: u16, offset: u16, value: u32)
     store(bus, selector, offset, &part);
 }
 
-/// Writes the value of a call that came to no error, where it has a pointer.
-fn store_value<B: Ranges>(bus: &mut B, arguments: SegmentArguments, value: u32)
-    requires ready { are_ready (B.view bus.old) (targets arguments) ≡ true }
-    requires value { IsValue arguments value }
+/// Writes a value where it goes.
+fn store_value<B: Ranges>(bus: &mut B, target: Target, value: u32)
+    requires ready { are_ready (B.view bus.old) (target_pointers target) ≡ true }
+    requires value { FitsIn target value }
     ensures bytes { (f : Filling) (n : ℕ) → (whole f (B.view bus.new)).bytes n
-        ≡ bytes_of arguments 0 value (B.view bus.old).held (whole f (B.view bus.old)).bytes n }
+        ≡ bytes_by 0 (written_to target value) (B.view bus.old).held (whole f (B.view bus.old)).bytes n }
     ensures frame { KeepsAllButBytes (B.view bus.old) (B.view bus.new) }
     ensures writes { WritesHeld (B.view bus.old) (B.view bus.new) }
 {
-    match arguments {
-        SegmentArguments::Alloc {
-            size: _,
-            to_selector,
-            to_offset,
-            flags: _,
-        } => store_word(bus, to_selector, to_offset, value as u16),
-        SegmentArguments::Realloc { .. } => {}
-        SegmentArguments::Free(_) => {}
-        SegmentArguments::Size {
-            selector: _,
-            to_selector,
-            to_offset,
-        } => store_long(bus, to_selector, to_offset, value),
-        SegmentArguments::Lock(_) => {}
-        SegmentArguments::Unlock(_) => {}
-        SegmentArguments::Alias {
-            selector: _,
-            to_selector,
-            to_offset,
-        } => store_word(bus, to_selector, to_offset, value as u16),
-        SegmentArguments::Shared(shared) => store_shared(bus, &shared, value),
-        SegmentArguments::Huge(huge) => store_huge(bus, &huge, value),
+    match target {
+        Target::Nowhere => {}
+        Target::ToWord(selector, offset) => store_word(bus, selector, offset, value as u16),
+        Target::ToLong(selector, offset) => store_long(bus, selector, offset, value),
     }
 }
 
 /// The line of a call without a value.
-pub(crate) fn set_bare(line: &mut LineBuffer, pid: u16, name: &[u8], args: &[Argument], error: u16)
+fn set_bare(line: &mut LineBuffer, pid: u16, name: &[u8], args: &[Argument], error: u16)
     requires short_name { length name.now ≤ 20 }
     requires few_args { length args.now ≤ 12 }
     ensures { line.new ≡ line_text (Calls pid name.now args.now error []) }
@@ -122,7 +86,7 @@ pub(crate) fn set_bare(line: &mut LineBuffer, pid: u16, name: &[u8], args: &[Arg
 }
 
 /// The line of a call with a value, which it has where there is no error.
-pub(crate) fn set_valued(
+fn set_valued(
     line: &mut LineBuffer,
     pid: u16,
     name: &[u8],
@@ -142,68 +106,25 @@ pub(crate) fn set_valued(
     set_calls(line, pid, name, args, error, &values);
 }
 
-/// The line of a call on segments.
-fn set_reply(line: &mut LineBuffer, pid: u16, arguments: SegmentArguments, error: u16, value: u32)
-    requires value { IsValue arguments value }
-    ensures { line.new ≡ line_text (call_line arguments pid error value) }
+/// The line of a call with a value that goes somewhere, or nowhere.
+fn set_reply(line: &mut LineBuffer, pid: u16, shape: &Shape, error: u16, value: u32)
+    requires short_name { length shape.now.name.now ≤ 20 }
+    requires few { shape.now.count ≤ 5 }
+    requires value { FitsIn shape.now.target value }
+    ensures { line.new ≡ line_text (Calls pid shape.now.name.now (take shape.now.count shape.now.shown) error
+        (values_by error (written_to shape.now.target value))) }
 {
-    match arguments {
-        SegmentArguments::Alloc {
-            size,
-            to_selector,
-            to_offset,
-            flags,
-        } => {
-            let args = [
-                Argument::Word(size),
-                Argument::Far(to_selector, to_offset),
-                Argument::Word(flags),
-            ];
+    let args = &shape.shown[..shape.count];
+    match shape.target {
+        Target::Nowhere => set_bare(line, pid, shape.name, args, error),
+        Target::ToWord(_, _) => {
             let shown = Argument::Word(value as u16);
-            set_valued(line, pid, b"DosAllocSeg", &args, error, shown);
+            set_valued(line, pid, shape.name, args, error, shown);
         }
-        SegmentArguments::Realloc { size, selector } => {
-            let args = [Argument::Word(size), Argument::Word(selector)];
-            set_bare(line, pid, b"DosReallocSeg", &args, error);
-        }
-        SegmentArguments::Free(selector) => {
-            let args = [Argument::Word(selector)];
-            set_bare(line, pid, b"DosFreeSeg", &args, error);
-        }
-        SegmentArguments::Size {
-            selector,
-            to_selector,
-            to_offset,
-        } => {
-            let args = [
-                Argument::Word(selector),
-                Argument::Far(to_selector, to_offset),
-            ];
+        Target::ToLong(_, _) => {
             let shown = Argument::Long((value / 65536) as u16, (value % 65536) as u16);
-            set_valued(line, pid, b"DosSizeSeg", &args, error, shown);
+            set_valued(line, pid, shape.name, args, error, shown);
         }
-        SegmentArguments::Lock(selector) => {
-            let args = [Argument::Word(selector)];
-            set_bare(line, pid, b"DosLockSeg", &args, error);
-        }
-        SegmentArguments::Unlock(selector) => {
-            let args = [Argument::Word(selector)];
-            set_bare(line, pid, b"DosUnlockSeg", &args, error);
-        }
-        SegmentArguments::Alias {
-            selector,
-            to_selector,
-            to_offset,
-        } => {
-            let args = [
-                Argument::Word(selector),
-                Argument::Far(to_selector, to_offset),
-            ];
-            let shown = Argument::Word(value as u16);
-            set_valued(line, pid, b"DosCreateCSAlias", &args, error, shown);
-        }
-        SegmentArguments::Shared(shared) => set_shared(line, pid, &shared, error, value),
-        SegmentArguments::Huge(huge) => set_huge(line, pid, &huge, error, value),
     }
 }
 
@@ -298,29 +219,6 @@ fn put_blocks<R: Sink>(line: &mut LineBuffer, cause: &[u8], blocks: &[Block], re
     Put::Done
 }
 
-/// The name of a call, which its lines have.
-fn name(arguments: SegmentArguments) -> &'static [u8]
-    ensures name { result.now ≡ name_of arguments }
-    ensures few { length result.now ≤ 20 }
-{
-    match arguments {
-        SegmentArguments::Alloc { .. } => b"DosAllocSeg",
-        SegmentArguments::Realloc { .. } => b"DosReallocSeg",
-        SegmentArguments::Free(_) => b"DosFreeSeg",
-        SegmentArguments::Size { .. } => b"DosSizeSeg",
-        SegmentArguments::Lock(_) => b"DosLockSeg",
-        SegmentArguments::Unlock(_) => b"DosUnlockSeg",
-        SegmentArguments::Alias { .. } => b"DosCreateCSAlias",
-        SegmentArguments::Shared(SharedArguments::Name { .. }) => b"DosAllocShrSeg",
-        SegmentArguments::Shared(SharedArguments::Share { .. }) => b"DosGetShrSeg",
-        SegmentArguments::Shared(SharedArguments::Give { .. }) => b"DosGiveSeg",
-        SegmentArguments::Shared(SharedArguments::Get(_)) => b"DosGetSeg",
-        SegmentArguments::Huge(HugeArguments::Alloc { .. }) => b"DosAllocHuge",
-        SegmentArguments::Huge(HugeArguments::Realloc { .. }) => b"DosReallocHuge",
-        SegmentArguments::Huge(HugeArguments::Shift { .. }) => b"DosGetHugeShift",
-    }
-}
-
 /// Puts the line of a call on segments, and behind it those of all that came or went by it, each by a put of its own.
 pub fn put_reply<R: Sink>(
     line: &mut LineBuffer,
@@ -340,10 +238,11 @@ pub fn put_reply<R: Sink>(
     ensures count { R.faults report.old ≤ R.faults report.new }
     ensures cause { OnFailed result (Rose (R.faults report.old) (R.faults report.new)) }
 {
-    set_reply(line, pid, arguments, error, value);
+    let shape = shape_of(arguments);
+    set_reply(line, pid, &shape, error, value);
     match report.put(line.as_slice()) {
         Put::Failed => Put::Failed,
-        Put::Done => put_blocks(line, name(arguments), moves.blocks(), report),
+        Put::Done => put_blocks(line, shape.name, moves.blocks(), report),
     }
 }
 
@@ -357,7 +256,7 @@ pub fn give_value<B: Ranges>(bus: &mut B, arguments: SegmentArguments, error: u1
     ensures writes { WritesHeld (B.view bus.old) (B.view bus.new) }
 {
     if error == 0 {
-        store_value(bus, arguments, value);
+        store_value(bus, shape_of(arguments).target, value);
     }
 }
 
@@ -365,5 +264,5 @@ pub fn give_value<B: Ranges>(bus: &mut B, arguments: SegmentArguments, error: u1
 pub fn come_back(cpu: &mut Cpu, arguments: SegmentArguments, error: u16, next: u16)
     ensures { cpu.new ≡ returned cpu.old next (words_of arguments) error }
 {
-    give_back(cpu, next, words(arguments), error);
+    give_back(cpu, next, shape_of(arguments).words, error);
 }

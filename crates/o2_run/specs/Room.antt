@@ -90,13 +90,13 @@ pointers_of (OnSegments call) v a = segment_pointers call a
 pointers_of (OnShared call) v a = shared_pointers call v a
 pointers_of (OnRuns call) v a = huge_pointers call a
 
--- a selector that passes counts even where the range behind it is refused, and nothing behind a refused pointer does; a range
--- of no bytes is not looked at
+-- a selector that passes counts even where the right to write or the range behind it is refused, and nothing behind a refused
+-- pointer does; a range of no bytes is not looked at
 abbrev pub passed : View → Option Hold → Pointer → (rest : List ℕ) → List ℕ
 passed v None p rest = []
 passed v (Some h) p rest =
-    if is_for_es v p.selector && p.good h.rights
-    then h.name ∷ (if nat_le (p.offset + p.count) (length (v.bytes h.name)) then rest else [])
+    if is_for_es v p.selector
+    then h.name ∷ (if p.good h.rights && nat_le (p.offset + p.count) (length (v.bytes h.name)) then rest else [])
     else []
 
 abbrev pub pointed : View → List Pointer → List ℕ

@@ -34,7 +34,7 @@ use Rattle.o2_gate.specs.Pointed.{are_ready}
 use Rattle.o2_gate.specs.declared.huge.HugeArguments.TheVariants as huge
 use Rattle.o2_gate.specs.declared.sharing.SharedArguments.{SharedArguments}
 use Rattle.o2_gate.specs.declared.sharing.SharedArguments.TheVariants.{Name, Share, Give, Get}
-use Rattle.o2_gate.specs.SharedReplies.{shared_targets, shared_written}
+use Rattle.o2_gate.specs.SharedReplies.{shared_targets}
 use Rattle.o2_gate.specs.Replies.{bytes_of, written_of}
 use Rattle.o2_calls.specs.Acts.{ruling_of}
 use Rattle.o2_calls.specs.Seen.{Gives, IsAimedAt}
@@ -92,7 +92,7 @@ module _ (p : Parts) (w : World) (x : Process) (pid : ℕ) (lawful : AreLawful p
             omega (arith, age, below, made));
       }
 
-  shared_at : (a : SharedArguments) (value : ℕ) → StillHolds p.maps n → are_ready (seen p.shelf p.maps pid c) (shared_targets a) ≡ true → (t : Written) → shared_written a value ≡ Some t
+  shared_at : (a : SharedArguments) (value : ℕ) → StillHolds p.maps n → are_ready (seen p.shelf p.maps pid c) (shared_targets a) ≡ true → (t : Written) → written_of (Shared a) value ≡ Some t
       → IsAimedAt (holds_in x.held) (hold_in n pid) w.next_name t
   shared_at (Name size y s o) value holds ready t is = subst (λ (z : Written). IsAimedAt (holds_in x.held) (hold_in n pid) w.next_name z) (some_is is) (aimed_at (written_word s o value) o 2 refl holds (and_left _ true (and_right _ _ ready)))
   shared_at (Share y s o) value holds ready t is = subst (λ (z : Written). IsAimedAt (holds_in x.held) (hold_in n pid) w.next_name z) (some_is is) (aimed_at (written_word s o value) o 2 refl holds (and_left _ true (and_right _ _ ready)))

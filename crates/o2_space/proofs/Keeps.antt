@@ -133,7 +133,7 @@ pointed_in v p ps q e = go (p.count == 0) (bound_in v.held p.selector) e
     go : (z : Bool) (o : Option Hold) → is_in q (if z then pointed v ps else passed v o p (pointed v ps)) ≡ true → (is_in q (name_in o) ≡ true) ⊎ (is_in q (pointed v ps) ≡ true)
     go true o f = inr f
     go false None f = absurd (false≢true f)
-    go false (Some h) f = hold h (is_for_es v p.selector && p.good h.rights) (nat_le (p.offset + p.count) (length (v.bytes h.name))) f
+    go false (Some h) f = hold h (is_for_es v p.selector) (p.good h.rights && nat_le (p.offset + p.count) (length (v.bytes h.name))) f
 
 -- of a text some bytes are looked at
 text_some : (x : TextArgument) → ((text_target x).count == 0) ≡ false
@@ -229,16 +229,15 @@ module _ (s : Shelf) (m : Maps) (pid : ℕ) (c : Cpu) where
     aimed_passes z o count n some x =
         subst (λ (b : Bool). is_in n (if b then [] else passed v (bound_in v.held z) (pointer true z o count) []) ≡ true) (sym some)
         (subst (λ (q : Option Hold). is_in n (passed v q (pointer true z o count) []) ≡ true) (sym bound)
-        (pass (is_for_es v z) (is_writable x.hold.rights) (nat_le (o + count) (length (v.bytes x.hold.name))) (is_es v z x.hold kept bound x.rights) x.rights))
+        (pass (is_for_es v z) (is_writable x.hold.rights && nat_le (o + count) (length (v.bytes x.hold.name))) (is_es v z x.hold kept bound x.rights)))
       where
         bound : bound_in v.held z ≡ Some x.hold
         bound = ap (λ (f : ℕ → Option Hold). bound_in f z) held ∙ x.bound
 
-        pass : (es ok fits : Bool) → es ≡ true → ok ≡ true → is_in n (if es && ok then x.hold.name ∷ (if fits then [] else []) else []) ≡ true
-        pass true true true e f = x.named
-        pass true true false e f = x.named
-        pass true false fits e f = absurd (false≢true f)
-        pass false ok fits e f = absurd (false≢true e)
+        pass : (es fits : Bool) → es ≡ true → is_in n (if es then x.hold.name ∷ (if fits then [] else []) else []) ≡ true
+        pass true true e = x.named
+        pass true false e = x.named
+        pass false fits e = absurd (false≢true e)
 
     one_passes : (z o count n : ℕ) → (count == 0) ≡ false → are_ready (seen s m pid c) (pointer true z o count ∷ []) ≡ true → is_in n (ages_of (pair_of (held_under m pid z))) ≡ true
         → is_in n (pointed v (pointer true z o count ∷ [])) ≡ true

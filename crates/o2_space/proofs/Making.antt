@@ -23,10 +23,8 @@ use Rattle.o2_gate.specs.declared.gathering.SegmentArguments.{SegmentArguments}
 use Rattle.o2_gate.specs.declared.gathering.SegmentArguments.TheVariants.{Alloc, Realloc, Free, Size, Lock, Unlock, Alias, Shared, Huge}
 use Rattle.o2_gate.specs.declared.huge.HugeArguments.{HugeArguments}
 use Rattle.o2_gate.specs.declared.huge.HugeArguments.TheVariants as huge
-use Rattle.o2_gate.specs.HugeReplies.{IsHugeValue}
 use Rattle.o2_gate.specs.declared.sharing.SharedArguments.{SharedArguments}
 use Rattle.o2_gate.specs.declared.sharing.SharedArguments.TheVariants.{Name, Share, Give, Get}
-use Rattle.o2_gate.specs.SharedReplies.{IsSharedValue}
 use Rattle.o2_gate.specs.Replies.{IsValue}
 use Rattle.o2_calls.specs.Stops.{IsGivable, IsRunGivable}
 use Rattle.o2_stands.specs.Moves.{moved}
@@ -43,13 +41,13 @@ use Rattle.o2_space.proofs.Alike.{made, ready_as}
 
 -- A value that is given is a word where it is a selector.
 
-shared_value : (a : SharedArguments) (value : ℕ) → value ≤ 65535 → IsSharedValue a value
+shared_value : (a : SharedArguments) (value : ℕ) → value ≤ 65535 → IsValue (Shared a) value
 shared_value (Name size t s o) value h = h
 shared_value (Share t s o) value h = h
 shared_value (Give selector to s o) value h = h
 shared_value (Get selector) value h = tt
 
-huge_value : (a : HugeArguments) (x : Answer) → IsRunGivable a (Done x) → IsHugeValue a x.value
+huge_value : (a : HugeArguments) (x : Answer) → IsRunGivable a (Done x) → IsValue (Huge a) x.value
 huge_value (huge.Alloc segs part s o most flags) x h = h
 huge_value (huge.Realloc segs part selector) x h = tt
 huge_value (huge.Shift s o) x h = h

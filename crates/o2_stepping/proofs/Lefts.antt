@@ -29,7 +29,7 @@ use Rattle.o2_stepping.proofs.Named.{both_in}
 
 passed_few : (v : View) (o : Option Hold) (p : Pointer) (rest : List ℕ) → length (passed v o p rest) ≤ 1 + length rest
 passed_few v None p rest = omega arith
-passed_few v (Some h) p rest = go (is_for_es v p.selector && p.good h.rights) (nat_le (p.offset + p.count) (length (v.bytes h.name)))
+passed_few v (Some h) p rest = go (is_for_es v p.selector) (p.good h.rights && nat_le (p.offset + p.count) (length (v.bytes h.name)))
   where
     go : (a b : Bool) → length (cond a (h.name ∷ cond b rest []) []) ≤ 1 + length rest
     go true true = omega arith
