@@ -18,7 +18,7 @@ use Rattle.o2_open.specs.Loads.{Contents, Fails, Refuses as OpenRefuses, loaded}
 use Rattle.o2_run.specs.Pieces.{Counts}
 use Rattle.o2_cli.specs.declared.status.Status.{Status}
 use Rattle.o2_cli.specs.declared.status.Status.TheVariants as status
-use Rattle.o2_cli.specs.Top.{Possible, IsBench, IsCheck, IsFirst, Refuses, Shows, OnTried}
+use Rattle.o2_cli.specs.Top.{Possible, IsBench, IsCheck, IsFirst, Refuses, Shows, OnFileFault, OnInputFault, OnSwapFault, OnTried}
 use Rattle.o2_cli.specs.Statuses.{status_by}
 use Rattle.o2_cli.specs.Checks.{module_line, with_line, module_lines, IsUnstarted, ShowsLines, Checks, ChecksFile}
 use Rattle.o2_cli.proofs.Runs.{load_started}
@@ -159,6 +159,21 @@ module _ (words : List (String Global)) (may : Possible) (name : List ℕ) (comm
 
   pub lines_of_check : (loads : (contents : Contents) → may contents → loaded Check contents name ≡ Ok s) (answer : Status) → ShowsLines s c d answer → Checks words may c d answer
   lines_of_check loads answer t = λ other too. subst (λ (n : List ℕ). ChecksFile n may c d answer) (name_is words Check Check name other command too) (file_shown loads answer t)
+
+-- a check has a fault of a sink alone
+pub check_faults : (s : Session) (c d : Option (List ℕ)) (P Q R : Type 0) (answer : Status) → ShowsLines s c d answer → (OnFileFault answer P × OnInputFault answer Q) × OnSwapFault answer R
+check_faults s c d P Q R status.Fine t = ((tt, tt), tt)
+check_faults s c d P Q R status.SinkFault t = ((tt, tt), tt)
+check_faults s c d P Q R status.NoMemory t = ((tt, tt), tt)
+check_faults s c d P Q R status.BadWords t = absurd t
+check_faults s c d P Q R (status.NoFile n) t = absurd t
+check_faults s c d P Q R (status.BadMachine f) t = absurd t
+check_faults s c d P Q R (status.BadModule n f) t = absurd t
+check_faults s c d P Q R status.FileFault t = absurd t
+check_faults s c d P Q R status.InputFault t = absurd t
+check_faults s c d P Q R status.NoRoom t = absurd t
+check_faults s c d P Q R status.SwapFull t = absurd t
+check_faults s c d P Q R status.SwapFault t = absurd t
 
 -- what keeps a command from opening puts nothing
 untried_by : (P : Type 0) (f : OpenFault) → OnTried (status_by f) P

@@ -187,6 +187,19 @@ files_rose before now (open_fault.BadModule n f) h = tt
 files_rose before now open_fault.FileFault h = h
 files_rose before now open_fault.NoMemory h = tt
 
+module _ (before now : ℕ) (f : OpenFault) (answer : Status) (is : answer ≡ status_by f) where
+  pub open_file_fault : OpenRefuses before now f → OnFileFault answer (Rose before now)
+  open_file_fault h = subst (λ (a : Status). OnFileFault a (Rose before now)) (sym is) (files_rose before now f h)
+
+  pub open_input_fault : (P : Type 0) → OnInputFault answer P
+  open_input_fault P = subst (λ (a : Status). OnInputFault a P) (sym is) (no_input P f)
+
+  pub open_sink_fault : (P : Type 0) → OnSinkFault answer P
+  open_sink_fault P = subst (λ (a : Status). OnSinkFault a P) (sym is) (no_sink P f)
+
+  pub open_swap_fault : (P : Type 0) → OnSwapFault answer P
+  open_swap_fault P = subst (λ (a : Status). OnSwapFault a P) (sym is) (no_swap P f)
+
 pub open_completes : (words : List (String Global)) (may : Possible) (before now : ℕ) (input sink device : Type 0) (blocks : ℕ) (i : Option (List ℕ)) (verb : Verb) (name : List ℕ) → IsCommandFor words verb name
     → (f : OpenFault) (answer : Status) → answer ≡ status_by f → ((contents : Contents) → may contents → Fails f (loaded verb contents name)) → OpenRefuses before now f
     → Completes words may blocks i (Rose before now) input sink device answer

@@ -10,3 +10,7 @@ pub mod Checks
 pub mod RunTexts
 pub mod Done
 pub mod Reaches
+pub mod Sides
+pub mod Sessions
+pub mod Promises
+pub mod Performs

@@ -1,20 +1,18 @@
 // A bench: the run of its processes, and its line.
-ghost use Rattle.std.specs.Prelude.{◌≡◌, ◌≤◌, ◌<◌, ◌+◌, ◌^◌, ◌++◌, ◌∷◌, [], ◌⊎◌, ℕ, IsTrue, List, length, decimal, codes, Option};
+ghost use Rattle.std.specs.Prelude.{◌≡◌, ◌≤◌, ◌+◌, ◌++◌, ℕ, List, length, decimal};
 ghost use Rattle.o2_conf.specs.Limits.{IsWithinLimits};
 ghost use Rattle.o2_open.specs.Loads.{HasEnvironments, IsLinked};
 ghost use Rattle.o2_outer.specs.Answers.{OnFailed, Takes};
-ghost use Rattle.o2_outer.specs.Inputs.{GoesOn, IsSeenAs, left_as};
 ghost use Rattle.o2_outer.specs.Texts.{Rose};
 ghost use Rattle.o2_world.specs.World.{Setting, World};
-ghost use Rattle.o2_run.specs.Pieces.{counts};
 ghost use Rattle.o2_machine.specs.Lasts.{last_lines};
 ghost use Rattle.o2_machine.specs.StandsFor.{StandsFor};
 ghost use Rattle.o2_words.specs.declared.words.Verb.TheVariants.{Bench};
 ghost use Rattle.o2_cli.specs.BenchTexts.{bench_line, bench_text};
-ghost use Rattle.o2_cli.specs.RunTexts.{RefusesRun, ShowsRun};
-ghost use Rattle.o2_cli.specs.Top.{OnInputFault, OnSinkFault, OnSwapFault, OnUnrun};
-ghost use Rattle.o2_cli.specs.Done.{AllFit};
-ghost use Rattle.o2_cli.specs.Opening.{StartsWith};
+ghost use Rattle.o2_open.specs.declared.session.Session.{Session};
+ghost use Rattle.o2_machine.specs.GoesOver.{GoesOver};
+ghost use Rattle.o2_cli.specs.Sessions.{BegunAs, RunsAs};
+ghost use Rattle.o2_cli.specs.Sides.{input_sides, sink_sides, swap_sides};
 
 use crate::Status;
 use crate::begun::begun;
@@ -83,7 +81,6 @@ fn put_line<C: Sink>(line: &mut LineBuffer, count: u16, machine: &Machine, conso
 }
 
 /// Runs the processes of a bench, of which there are so many, and writes its line. The line's room is taken before the first step.
-#[tactic(auto, using(o2_outer::proofs::Inputs::goes_same))]
 pub(crate) fn bench_session<I: Source, C: Sink, R: Sink, S: SwapDevice>(
     alloc: Global,
     session: Session,
@@ -96,39 +93,42 @@ pub(crate) fn bench_session<I: Source, C: Sink, R: Sink, S: SwapDevice>(
     requires within { IsWithinLimits session.conf }
     requires environments { HasEnvironments session }
     requires linked { IsLinked session.conf session.linked }
-    ensures same_input { OnUnrun result (input.new ≡ input.old) }
-    ensures same_console { OnUnrun result (console.new ≡ console.old) }
-    ensures same_report { OnUnrun result (report.new ≡ report.old) }
-    ensures same_swap { OnUnrun result (swap.new ≡ swap.old) }
-    ensures swap_blocks { S.blocks swap.new ≡ S.blocks swap.old }
-    ensures swap_told { IsTrue (S.told swap.new) → IsTrue (S.told swap.old) }
-    ensures refused { RefusesRun session result }
-    // However the input is seen: by what it tells, or as a text that the whole of it may be.
-    ensures texts { IsTrue (S.told swap.new) → (text : Option (List ℕ)) → IsSeenAs text (I.past input.new)
-        → ShowsRun (Bench count) session (S.blocks swap.old)
-        (left_as text (I.left input.old) (I.past input.old)) (left_as text (I.left input.new) (I.past input.new))
-        (C.taken console.old) (C.taken console.new)
-        (R.taken report.old) (R.taken report.new) (Rose (R.faults report.old) (R.faults report.new))
-        (counts (C.puts console.old) (C.puts console.new) (R.puts report.old) (R.puts report.new) 0) result }
-    ensures goes_on { GoesOn (I.past input.old) (I.past input.new) }
-    ensures input_fault { OnInputFault result (Rose (I.faults input.old) (I.faults input.new)) }
-    ensures sink_fault { OnSinkFault result (Rose (C.faults console.old) (C.faults console.new) ⊎ Rose (R.faults report.old) (R.faults report.new)) }
-    ensures swap_fault { OnSwapFault result (Rose (S.faults swap.old) (S.faults swap.new)) }
-    // Where all that lives fits the memory at each step, the device is neither read nor written.
-    ensures idle { IsTrue (S.told swap.old) → (text : Option (List ℕ)) → IsSeenAs text (I.past input.new) → (seen : List ℕ)
-        → left_as text (I.left input.old) (I.past input.old) ≡ Some seen → StartsWith session seen AllFit → swap.new ≡ swap.old }
+    ensures runs { RunsAs (Bench count) session (input_sides input.old input.new I.left I.past I.faults)
+        (sink_sides console.old console.new C.taken C.puts C.faults) (sink_sides report.old report.new R.taken R.puts R.faults)
+        (swap_sides swap.old swap.new S.blocks S.told S.faults) result }
 {
     let Ok(mut line) = LineBuffer::new(alloc) else {
         return Status::NoMemory;
     };
     match begun(alloc, session, swap.count(), report) {
         Err(status) => status,
-        Ok(mut machine) => match run_unseen(&mut machine, input, report, swap) {
-            Err(why) => Status::from(why),
-            Ok(()) => match put_line(&mut line, count, &machine, console) {
-                Put::Done => Status::Fine,
-                Put::Failed => Status::SinkFault,
-            },
+        Ok(mut machine) => {
+            bench_machine(&mut machine, &mut line, count, input, console, report, swap)
+        }
+    }
+}
+
+/// Runs a machine that has begun, and writes the line of its bench.
+fn bench_machine<I: Source, C: Sink, R: Sink, S: SwapDevice>(
+    machine: &mut Machine,
+    line: &mut LineBuffer,
+    count: u16,
+    input: &mut I,
+    console: &mut C,
+    report: &mut R,
+    swap: &mut S,
+) -> Status
+    requires device { GoesOver machine.old.space machine.old.sched (S.blocks swap.old) }
+    ensures runs { (session : Session) (start : R) → BegunAs machine.old session (sink_sides start report.old R.taken R.puts R.faults) (S.blocks swap.old)
+        → RunsAs (Bench count) session (input_sides input.old input.new I.left I.past I.faults)
+        (sink_sides console.old console.new C.taken C.puts C.faults) (sink_sides start report.new R.taken R.puts R.faults)
+        (swap_sides swap.old swap.new S.blocks S.told S.faults) result }
+{
+    match run_unseen(machine, input, report, swap) {
+        Err(why) => Status::from(why),
+        Ok(()) => match put_line(line, count, machine, console) {
+            Put::Done => Status::Fine,
+            Put::Failed => Status::SinkFault,
         },
     }
 }

@@ -1,22 +1,18 @@
 // A dump: the run of a machine file, and the core image of its machine.
-ghost use Rattle.std.specs.Prelude.{◌≡◌, ◌≤◌, ◌<◌, ◌++◌, [], ◌⊎◌, ℕ, IsTrue, List, length, map, min, option_map, option_to_list, slice_get, vec_capacity, Option};
+ghost use Rattle.std.specs.Prelude.{◌≡◌, ◌≤◌, ◌<◌, ◌++◌, [], IsTrue, length, map, min, option_map, option_to_list, slice_get, vec_capacity};
 ghost use Rattle.o2_conf.specs.Limits.{IsWithinLimits};
 ghost use Rattle.o2_open.specs.Loads.{HasEnvironments, IsLinked};
-ghost use Rattle.o2_outer.specs.Inputs.{GoesOn, IsSeenAs, left_as};
-ghost use Rattle.o2_outer.specs.Texts.{Rose};
 ghost use Rattle.o2_world.specs.World.{Setting, World};
-ghost use Rattle.o2_run.specs.Pieces.{counts};
 ghost use Rattle.o2_dumping.specs.Puts.{HasCauses, IsRead};
 ghost use Rattle.o2_machine.specs.GoesOver.{GoesOver};
 ghost use Rattle.o2_machine.specs.Shown.{shown_proc};
 ghost use Rattle.o2_machine.specs.StandsFor.{StandsFor};
 ghost use Rattle.o2_words.specs.declared.words.Verb.TheVariants.{Dump};
 ghost use Rattle.o2_cli.specs.DumpTexts.{GainsByWrote, is_dumped};
-ghost use Rattle.o2_cli.specs.RunTexts.{RefusesRun, ShowsRun};
+ghost use Rattle.o2_open.specs.declared.session.Session.{Session};
+ghost use Rattle.o2_cli.specs.Sessions.{BegunAs, RunsAs};
+ghost use Rattle.o2_cli.specs.Sides.{input_sides, sink_sides, swap_sides};
 ghost use Rattle.o2_cli.specs.Statuses.{status_of_image, status_of_run};
-ghost use Rattle.o2_cli.specs.Top.{OnInputFault, OnSinkFault, OnSwapFault, OnUnrun};
-ghost use Rattle.o2_cli.specs.Done.{AllFit};
-ghost use Rattle.o2_cli.specs.Opening.{StartsWith};
 ghost use Rattle.o2_store.specs.Idle.{NoneTaken};
 ghost use Rattle.o2_store.specs.Pictures.{picture};
 
@@ -143,27 +139,9 @@ pub(crate) fn dump_session<I: Source, C: Sink, R: Sink, S: SwapDevice>(
     requires within { IsWithinLimits session.conf }
     requires environments { HasEnvironments session }
     requires linked { IsLinked session.conf session.linked }
-    ensures same_input { OnUnrun result (input.new ≡ input.old) }
-    ensures same_console { OnUnrun result (console.new ≡ console.old) }
-    ensures same_report { OnUnrun result (report.new ≡ report.old) }
-    ensures same_swap { OnUnrun result (swap.new ≡ swap.old) }
-    ensures swap_blocks { S.blocks swap.new ≡ S.blocks swap.old }
-    ensures swap_told { IsTrue (S.told swap.new) → IsTrue (S.told swap.old) }
-    ensures refused { RefusesRun session result }
-    // However the input is seen: by what it tells, or as a text that the whole of it may be.
-    ensures texts { IsTrue (S.told swap.new) → (text : Option (List ℕ)) → IsSeenAs text (I.past input.new)
-        → ShowsRun Dump session (S.blocks swap.old)
-        (left_as text (I.left input.old) (I.past input.old)) (left_as text (I.left input.new) (I.past input.new))
-        (C.taken console.old) (C.taken console.new)
-        (R.taken report.old) (R.taken report.new) (Rose (R.faults report.old) (R.faults report.new))
-        (counts (C.puts console.old) (C.puts console.new) (R.puts report.old) (R.puts report.new) 0) result }
-    ensures goes_on { GoesOn (I.past input.old) (I.past input.new) }
-    ensures input_fault { OnInputFault result (Rose (I.faults input.old) (I.faults input.new)) }
-    ensures sink_fault { OnSinkFault result (Rose (C.faults console.old) (C.faults console.new) ⊎ Rose (R.faults report.old) (R.faults report.new)) }
-    ensures swap_fault { OnSwapFault result (Rose (S.faults swap.old) (S.faults swap.new)) }
-    // Where all that lives fits the memory at each step, the device is neither read nor written.
-    ensures idle { IsTrue (S.told swap.old) → (text : Option (List ℕ)) → IsSeenAs text (I.past input.new) → (seen : List ℕ)
-        → left_as text (I.left input.old) (I.past input.old) ≡ Some seen → StartsWith session seen AllFit → swap.new ≡ swap.old }
+    ensures runs { RunsAs Dump session (input_sides input.old input.new I.left I.past I.faults)
+        (sink_sides console.old console.new C.taken C.puts C.faults) (sink_sides report.old report.new R.taken R.puts R.faults)
+        (swap_sides swap.old swap.new S.blocks S.told S.faults) result }
 {
     let Ok(mut rows) = Vec::with_capacity(alloc, usize::from(MOST_PROCESSES)) else {
         return Status::NoMemory;
@@ -173,14 +151,43 @@ pub(crate) fn dump_session<I: Source, C: Sink, R: Sink, S: SwapDevice>(
     match begun(alloc, session, device, report) {
         Err(status) => status,
         Ok(mut machine) => {
-            let ended = run_unseen(&mut machine, input, report, swap);
-            let whole = status_of_run(ended);
-            if is_dumped(ended, machine.line_put()) {
-                let wrote = put_image(&machine, &mut rows, blocks, console, swap);
-                status_of_image(wrote, whole)
-            } else {
-                whole
-            }
+            dump_machine(
+                &mut machine,
+                &mut rows,
+                blocks,
+                input,
+                console,
+                report,
+                swap,
+            )
         }
+    }
+}
+
+/// Runs a machine that has begun, over a device of which it uses so many blocks, and puts its core image.
+fn dump_machine<I: Source, C: Sink, R: Sink, S: SwapDevice>(
+    machine: &mut Machine,
+    rows: &mut Vec<(Cpu, u16, u16)>,
+    blocks: u32,
+    input: &mut I,
+    console: &mut C,
+    report: &mut R,
+    swap: &mut S,
+) -> Status
+    requires empty { rows.old.items ≡ [] }
+    requires room { 64 ≤ vec_capacity rows.old }
+    requires device { GoesOver machine.old.space machine.old.sched (S.blocks swap.old) }
+    ensures runs { (session : Session) (start : R) → BegunAs machine.old session (sink_sides start report.old R.taken R.puts R.faults) (S.blocks swap.old)
+        → blocks ≡ min session.conf.swap (S.blocks swap.old) → RunsAs Dump session (input_sides input.old input.new I.left I.past I.faults)
+        (sink_sides console.old console.new C.taken C.puts C.faults) (sink_sides start report.new R.taken R.puts R.faults)
+        (swap_sides swap.old swap.new S.blocks S.told S.faults) result }
+{
+    let ended = run_unseen(machine, input, report, swap);
+    let whole = status_of_run(ended);
+    if is_dumped(ended, machine.line_put()) {
+        let wrote = put_image(machine, rows, blocks, console, swap);
+        status_of_image(wrote, whole)
+    } else {
+        whole
     }
 }

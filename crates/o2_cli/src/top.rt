@@ -1,17 +1,16 @@
 // The top call.
-ghost use Rattle.std.specs.Prelude.{◌≡◌, ◌≤◌, ◌<◌, ◌+◌, ◌⊎◌, ℕ, List, Option, Some, IsTrue};
+ghost use Rattle.std.specs.Prelude.{◌≡◌, ◌+◌};
 ghost use Rattle.o2_conf.specs.Limits.{IsWithinLimits};
-ghost use Rattle.o2_open.specs.Loads.{Contents, HasEnvironments, IsLinked};
+ghost use Rattle.o2_open.specs.Loads.{HasEnvironments, IsLinked};
 ghost use Rattle.o2_outer.specs.Texts.{Rose};
-ghost use Rattle.o2_outer.specs.Inputs.{GoesOn, MayBe, rest_of, IsSeenAs, left_as};
-ghost use Rattle.o2_run.specs.Pieces.{counts};
-ghost use Rattle.o2_cli.specs.Top.{IsBench, IsCheck, Refuses, Shows, OnFileFault, OnInputFault, OnSinkFault, OnSwapFault, OnTried, OnUnrun};
-ghost use Rattle.o2_cli.specs.Reaches.{Reaches};
+ghost use Rattle.o2_cli.specs.Top.{OnSinkFault, OnTried, OnUnrun};
 ghost use Rattle.o2_words.specs.declared.words.Verb.TheVariants.{Run};
-ghost use Rattle.o2_cli.specs.RunTexts.{ShowsRun, RefusesRun};
-ghost use Rattle.o2_cli.specs.Checks.{Checks, IsUnstarted, ShowsLines};
-ghost use Rattle.o2_cli.specs.Done.{Completes, CompletesCheck, HasMemory, AllFit, InMemory, IsUnswapped};
-ghost use Rattle.o2_cli.specs.Opening.{StartsWith};
+ghost use Rattle.o2_cli.specs.Checks.{IsUnstarted, ShowsLines};
+ghost use Rattle.o2_cli.specs.Promises.{Promises};
+ghost use Rattle.o2_open.specs.declared.session.Session.{Session};
+ghost use Rattle.o2_machine.specs.GoesOver.{GoesOver};
+ghost use Rattle.o2_cli.specs.Sessions.{ActsAs, BegunAs, RunsAs};
+ghost use Rattle.o2_cli.specs.Sides.{file_sides, input_sides, sink_sides, swap_sides};
 
 use crate::Status;
 use crate::begun::begun;
@@ -19,6 +18,7 @@ use crate::bench::bench_session;
 use crate::dump::dump_session;
 use crate::lines::lines;
 use o2_base::Bytes;
+use o2_machine::Machine;
 use o2_open::{Session, open};
 use o2_outer::{Files, Put, Sink, Source, SwapDevice};
 use o2_run::run;
@@ -28,7 +28,6 @@ use std::alloc::Global;
 /// Runs a command. What it writes is what the boundless machine's run shows, or where a sink or the input fails a front
 /// of it; `bench` writes a line of its run to the console; `check` starts nothing, and writes a line for each module. Where a
 /// command is refused, nothing is written.
-#[tactic(auto, using(o2_outer::proofs::Inputs::goes_same, o2_outer::proofs::Inputs::may_be_given))]
 pub fn os2run<F: Files, I: Source, C: Sink, R: Sink, S: SwapDevice>(
     alloc: Global,
     words: &[String],
@@ -38,69 +37,9 @@ pub fn os2run<F: Files, I: Source, C: Sink, R: Sink, S: SwapDevice>(
     report: &mut R,
     swap: &mut S,
 ) -> Status
-    // Each refusal, with its cause.
-    ensures refused { Refuses words.now (F.may_hold files.new) result }
-    // Both texts are those of the boundless machine over all files that agree with what was fetched, or fronts of them, where each
-    // block that was read had what was written to it last; each line of the report is one put, and so is the piece for the console
-    // of each step that has one. Of a bench the console gains its line alone, by one put, where the run is over; of a dump a core image
-    // that stands for the world at its end, or for that of a stop for room or for swap whose line was put.
-    ensures texts { IsTrue (S.told swap.new) → Shows words.now (F.may_hold files.new) (S.blocks swap.old)
-        (I.left input.old) (I.left input.new) (C.taken console.old) (C.taken console.new)
-        (R.taken report.old) (R.taken report.new) (Rose (R.faults report.old) (R.faults report.new))
-        (counts (C.puts console.old) (C.puts console.new) (R.puts report.old) (R.puts report.new) 0) result }
-    // The same of an input that tells nothing, over each text that the whole of it may be when the call comes back: what it has given
-    // is a front of it, and all of it where it has ended. What it has given is such a text.
-    ensures untold_texts { IsTrue (S.told swap.new) → (text : List ℕ) → MayBe text (I.past input.new)
-        → Shows words.now (F.may_hold files.new) (S.blocks swap.old)
-        (Some (rest_of text (I.past input.old))) (Some (rest_of text (I.past input.new)))
-        (C.taken console.old) (C.taken console.new)
-        (R.taken report.old) (R.taken report.new) (Rose (R.faults report.old) (R.faults report.new))
-        (counts (C.puts console.old) (C.puts console.new) (R.puts report.old) (R.puts report.new) 0) result }
-    ensures some_text { MayBe (I.past input.new).given (I.past input.new) }
-    ensures goes_on { GoesOn (I.past input.old) (I.past input.new) }
-    // Behind each step of what ran, each process holds what is under each selector as often as the report's lines tell: a process
-    // reaches a segment exactly while its loads, allocations, gifts and gets outnumber its frees.
-    ensures reach { Reaches words.now (F.may_hold files.new) result }
-    // Of `check` the console gains the line of each linked module, or a front of the lines, and nothing else is touched; no
-    // module is refused for a stack, an entry point or the number of segments.
-    ensures lines { Checks words.now (F.may_hold files.new) (C.taken console.old) (C.taken console.new) result }
-    ensures checks_at_once { IsCheck words.now → OnTried result (C.puts console.new ≡ C.puts console.old + 1) }
-    ensures checks_unstarted { IsCheck words.now → IsUnstarted result }
-    ensures checks_quietly { IsCheck words.now → report.new ≡ report.old }
-    ensures checks_unread { IsCheck words.now → input.new ≡ input.old }
-    // Where each step has what it needs in memory and swap, and no count of faults rose, a command that opens is done, or there
-    // was no memory; and so is a check.
-    ensures complete { IsTrue (S.told swap.new) → (text : Option (List ℕ)) → IsSeenAs text (I.past input.new)
-        → Completes words.now (F.may_hold files.new) (S.blocks swap.old) (left_as text (I.left input.old) (I.past input.old))
-        (Rose (F.faults files.old) (F.faults files.new)) (Rose (I.faults input.old) (I.faults input.new))
-        (Rose (C.faults console.old) (C.faults console.new) ⊎ Rose (R.faults report.old) (R.faults report.new))
-        (Rose (S.faults swap.old) (S.faults swap.new)) result }
-    ensures check_complete { CompletesCheck words.now (F.may_hold files.new) (Rose (F.faults files.old) (F.faults files.new))
-        (Rose (C.faults console.old) (C.faults console.new) ⊎ Rose (R.faults report.old) (R.faults report.new)) result }
-    // Where all that lives fits the memory at each step, the device is neither read nor written, and no stop is for room or for swap.
-    ensures ample { IsTrue (S.told swap.old) → (text : Option (List ℕ)) → IsSeenAs text (I.past input.new)
-        → InMemory words.now (F.may_hold files.new) (left_as text (I.left input.old) (I.past input.old))
-        ((swap.new ≡ swap.old) × IsUnswapped (Rose (S.faults swap.old) (S.faults swap.old)) result) }
-    // Want of memory is told only before the first step, and before the lines of the starts, which are put in front of it: where a
-    // line or a piece was put, or tried, the status is another one.
-    ensures memory_first { (R.puts report.old < R.puts report.new) ⊎ (C.puts console.old < C.puts console.new) → HasMemory result }
-    // Where nothing ran, the input, both sinks and the device are as they were, whatever they tell.
-    ensures same_input { OnUnrun result (input.new ≡ input.old) }
-    ensures same_console { OnUnrun result (console.new ≡ console.old) }
-    ensures same_report { OnUnrun result (report.new ≡ report.old) }
-    ensures same_swap { OnUnrun result (swap.new ≡ swap.old) }
-    ensures benches_unread { IsBench words.now → files.new ≡ files.old }
-    ensures checks_unswapped { IsCheck words.now → swap.new ≡ swap.old }
-    // Files that agree with what was fetched agreed with what was fetched before, and a device whose reads all gave what was written
-    // had none before that didn't.
-    ensures files_earlier { (contents : Contents) → F.may_hold files.new contents → F.may_hold files.old contents }
-    ensures swap_blocks { S.blocks swap.new ≡ S.blocks swap.old }
-    ensures swap_told { IsTrue (S.told swap.new) → IsTrue (S.told swap.old) }
-    // A fault is told only where a count rose.
-    ensures file_fault { OnFileFault result (Rose (F.faults files.old) (F.faults files.new)) }
-    ensures input_fault { OnInputFault result (Rose (I.faults input.old) (I.faults input.new)) }
-    ensures sink_fault { OnSinkFault result (Rose (C.faults console.old) (C.faults console.new) ⊎ Rose (R.faults report.old) (R.faults report.new)) }
-    ensures swap_fault { OnSwapFault result (Rose (S.faults swap.old) (S.faults swap.new)) }
+    ensures promises { Promises words.now (file_sides files.old files.new F.may_hold F.faults) (input_sides input.old input.new I.left I.past I.faults)
+        (sink_sides console.old console.new C.taken C.puts C.faults) (sink_sides report.old report.new R.taken R.puts R.faults)
+        (swap_sides swap.old swap.new S.blocks S.told S.faults) result }
 {
     if !is_command(words) {
         return Status::BadWords;
@@ -113,14 +52,32 @@ pub fn os2run<F: Files, I: Source, C: Sink, R: Sink, S: SwapDevice>(
     };
     match open(alloc, command.verb, files, &name) {
         Err(fault) => Status::from(fault),
-        Ok(session) => match command.verb {
-            Verb::Check => check_session(alloc, &session, console),
-            Verb::Dump => dump_session(alloc, session, input, console, report, swap),
-            Verb::Bench(count) => {
-                bench_session(alloc, session, count, input, console, report, swap)
-            }
-            Verb::Exe | Verb::Run => run_session(alloc, session, input, console, report, swap),
-        },
+        Ok(session) => act(alloc, session, command.verb, input, console, report, swap),
+    }
+}
+
+/// Does what a command asks for with the session that it opened.
+fn act<I: Source, C: Sink, R: Sink, S: SwapDevice>(
+    alloc: Global,
+    session: Session,
+    verb: Verb,
+    input: &mut I,
+    console: &mut C,
+    report: &mut R,
+    swap: &mut S,
+) -> Status
+    requires within { IsWithinLimits session.conf }
+    requires environments { HasEnvironments session }
+    requires linked { IsLinked session.conf session.linked }
+    ensures acts { ActsAs verb session (input_sides input.old input.new I.left I.past I.faults)
+        (sink_sides console.old console.new C.taken C.puts C.faults) (sink_sides report.old report.new R.taken R.puts R.faults)
+        (swap_sides swap.old swap.new S.blocks S.told S.faults) result }
+{
+    match verb {
+        Verb::Check => check_session(alloc, &session, console),
+        Verb::Dump => dump_session(alloc, session, input, console, report, swap),
+        Verb::Bench(count) => bench_session(alloc, session, count, input, console, report, swap),
+        Verb::Exe | Verb::Run => run_session(alloc, session, input, console, report, swap),
     }
 }
 
@@ -142,7 +99,6 @@ fn check_session<C: Sink>(alloc: Global, session: &Session, console: &mut C) -> 
 }
 
 /// Runs what a command opened.
-#[tactic(auto, using(o2_outer::proofs::Inputs::goes_same))]
 fn run_session<I: Source, C: Sink, R: Sink, S: SwapDevice>(
     alloc: Global,
     session: Session,
@@ -154,33 +110,32 @@ fn run_session<I: Source, C: Sink, R: Sink, S: SwapDevice>(
     requires within { IsWithinLimits session.conf }
     requires environments { HasEnvironments session }
     requires linked { IsLinked session.conf session.linked }
-    ensures same_input { OnUnrun result (input.new ≡ input.old) }
-    ensures same_console { OnUnrun result (console.new ≡ console.old) }
-    ensures same_report { OnUnrun result (report.new ≡ report.old) }
-    ensures same_swap { OnUnrun result (swap.new ≡ swap.old) }
-    ensures swap_blocks { S.blocks swap.new ≡ S.blocks swap.old }
-    ensures swap_told { IsTrue (S.told swap.new) → IsTrue (S.told swap.old) }
-    ensures refused { RefusesRun session result }
-    // However the input is seen: by what it tells, or as a text that the whole of it may be.
-    ensures texts { IsTrue (S.told swap.new) → (text : Option (List ℕ)) → IsSeenAs text (I.past input.new)
-        → ShowsRun Run session (S.blocks swap.old)
-        (left_as text (I.left input.old) (I.past input.old)) (left_as text (I.left input.new) (I.past input.new))
-        (C.taken console.old) (C.taken console.new)
-        (R.taken report.old) (R.taken report.new) (Rose (R.faults report.old) (R.faults report.new))
-        (counts (C.puts console.old) (C.puts console.new) (R.puts report.old) (R.puts report.new) 0) result }
-    ensures goes_on { GoesOn (I.past input.old) (I.past input.new) }
-    ensures input_fault { OnInputFault result (Rose (I.faults input.old) (I.faults input.new)) }
-    ensures sink_fault { OnSinkFault result (Rose (C.faults console.old) (C.faults console.new) ⊎ Rose (R.faults report.old) (R.faults report.new)) }
-    ensures swap_fault { OnSwapFault result (Rose (S.faults swap.old) (S.faults swap.new)) }
-    // Where all that lives fits the memory at each step, the device is neither read nor written.
-    ensures idle { IsTrue (S.told swap.old) → (text : Option (List ℕ)) → IsSeenAs text (I.past input.new) → (seen : List ℕ)
-        → left_as text (I.left input.old) (I.past input.old) ≡ Some seen → StartsWith session seen AllFit → swap.new ≡ swap.old }
+    ensures runs { RunsAs Run session (input_sides input.old input.new I.left I.past I.faults)
+        (sink_sides console.old console.new C.taken C.puts C.faults) (sink_sides report.old report.new R.taken R.puts R.faults)
+        (swap_sides swap.old swap.new S.blocks S.told S.faults) result }
 {
     match begun(alloc, session, swap.count(), report) {
         Err(status) => status,
-        Ok(mut machine) => match run(&mut machine, input, console, report, swap) {
-            Ok(()) => Status::Fine,
-            Err(why) => Status::from(why),
-        },
+        Ok(mut machine) => run_machine(&mut machine, input, console, report, swap),
+    }
+}
+
+/// Runs a machine that has begun.
+fn run_machine<I: Source, C: Sink, R: Sink, S: SwapDevice>(
+    machine: &mut Machine,
+    input: &mut I,
+    console: &mut C,
+    report: &mut R,
+    swap: &mut S,
+) -> Status
+    requires device { GoesOver machine.old.space machine.old.sched (S.blocks swap.old) }
+    ensures runs { (session : Session) (start : R) → BegunAs machine.old session (sink_sides start report.old R.taken R.puts R.faults) (S.blocks swap.old)
+        → RunsAs Run session (input_sides input.old input.new I.left I.past I.faults)
+        (sink_sides console.old console.new C.taken C.puts C.faults) (sink_sides start report.new R.taken R.puts R.faults)
+        (swap_sides swap.old swap.new S.blocks S.told S.faults) result }
+{
+    match run(machine, input, console, report, swap) {
+        Ok(()) => Status::Fine,
+        Err(why) => Status::from(why),
     }
 }

@@ -8,8 +8,8 @@ ghost use Rattle.std.specs.Prelude.{◌≡◌, ◌≢◌, [], MatchResult};
 ghost use Rattle.std.specs.IoError.{error_kind};
 
 use o2_base::NoMemory;
-use o2_cli::{Status, number, os2run_on_system, text};
-use o2_outer::{FileSwap, FolderFiles, Put, Sink, StderrSink, StdinSource, StdoutSink};
+use o2_cli::{Status, number, perform, tell};
+use o2_outer::{FileSwap, FolderFiles, StderrSink, StdinSource, StdoutSink};
 use std::alloc::Global;
 use std::env;
 use std::fs::{File, OpenOptions};
@@ -39,38 +39,30 @@ fn words(rt: &HostRuntime) -> Result<Vec<String>, NoMemory> {
     Ok(words)
 }
 
-/// Runs the command over the folder's files, the standard streams and a swap file.
-fn run(rt: &HostRuntime) -> Result<Status, NoMemory> {
+/// Makes the folder's files, the standard streams and a swap file, and performs the command over them. It answers the number of the status.
+fn run(rt: &HostRuntime) -> Result<u8, NoMemory> {
     let words = words(rt)?;
-    let mut files = FolderFiles::new(rt);
     let mut input = StdinSource::new(rt.alloc(), rt.reader())?;
-    let mut console = StdoutSink::new(rt.stdout());
-    let mut report = StderrSink::new(rt.stderr());
-    let mut swap = FileSwap::new(rt);
-    Ok(os2run_on_system(
+    Ok(perform(
         rt.alloc(),
         words.as_slice(),
-        &mut files,
+        &mut FolderFiles::new(rt),
         &mut input,
-        &mut console,
-        &mut report,
-        &mut swap,
+        &mut StdoutSink::new(rt.stdout()),
+        &mut StderrSink::new(rt.stderr()),
+        &mut FileSwap::new(rt),
+        &mut StderrSink::new(rt.stderr()),
     ))
 }
 
-/// Puts the line of a status, where it has one. A failure there has nobody left to tell.
-fn tell(rt: &HostRuntime, status: &Status) {
-    let Ok(line) = text(rt.alloc(), status) else {
-        return;
-    };
-    if line.len() == 0 {
-        return;
-    }
-    let mut stream = StderrSink::new(rt.stderr());
-    match stream.put(line.as_slice()) {
-        Put::Done => {}
-        Put::Failed => {}
-    }
+/// Tells that there was no memory for the words or for the input. It answers the number of that status.
+fn tell_no_memory(rt: &HostRuntime) -> u8 {
+    tell(
+        rt.alloc(),
+        &Status::NoMemory,
+        &mut StderrSink::new(rt.stderr()),
+    );
+    number(&Status::NoMemory)
 }
 
 /// Opens the root folder, once for each standard stream. A stream that is closed has its place taken by that, which can neither be read
@@ -87,10 +79,9 @@ fn placeholders(rt: &HostRuntime) -> [Option<File>; 3] {
 
 fn main(rt: HostRuntime) -> ExitCode {
     let _placeholders = placeholders(&rt);
-    let status = match run(&rt) {
-        Ok(status) => status,
-        Err(NoMemory) => Status::NoMemory,
+    let code = match run(&rt) {
+        Ok(code) => code,
+        Err(NoMemory) => tell_no_memory(&rt),
     };
-    tell(&rt, &status);
-    ExitCode::from(number(&status))
+    ExitCode::from(code)
 }
