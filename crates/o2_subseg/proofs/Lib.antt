@@ -1,0 +1,13 @@
+pub mod Words
+pub mod Chains
+pub mod Walks
+pub mod Searches
+pub mod Takings
+pub mod Joinings
+pub mod Planned
+pub mod Units
+pub mod Written
+pub mod Done
+pub mod Sets
+pub mod Lowest
+pub mod Forms

@@ -1,0 +1,5 @@
+pub mod Heaps
+pub mod Rulings
+pub mod Spots
+pub mod Plans
+pub mod Laws
