@@ -16,46 +16,73 @@ pub struct Choice {
     pub selector: u16,
 }
 
-/// A subcommand with one file and the choices.
-fn with_file<'a>(alloc: Global, name: &'a str, about: &'a str) -> Result<Command<'a>, AllocError> {
-    let from = Arg::new(alloc, "from")
+/// The option `--from`.
+fn from_step<'a>(alloc: Global) -> Arg<'a> {
+    Arg::new(alloc, "from")
         .long("from")
         .value_name("STEP")
         .value_parser(value_parser!(u64).range(1..))
-        .help("Shows the steps of the run from this one on, counted from 1");
-    let to = Arg::new(alloc, "to")
+        .help("Shows the steps of the run from this one on, counted from 1")
+}
+
+/// The option `--to`.
+fn to_step<'a>(alloc: Global) -> Arg<'a> {
+    Arg::new(alloc, "to")
         .long("to")
         .value_name("STEP")
         .value_parser(value_parser!(u64).range(1..))
-        .help("Ends behind this step");
-    let process = Arg::new(alloc, "process")
+        .help("Ends behind this step")
+}
+
+/// The option `--process`.
+fn process<'a>(alloc: Global) -> Arg<'a> {
+    Arg::new(alloc, "process")
         .long("process")
         .value_name("NUMBER")
         .value_parser(value_parser!(u16).range(1..65))
-        .help("Shows the steps of this process alone");
-    let selector = Arg::new(alloc, "selector")
+        .help("Shows the steps of this process alone")
+}
+
+/// The option `--selector`.
+fn selector<'a>(alloc: Global) -> Arg<'a> {
+    Arg::new(alloc, "selector")
         .long("selector")
         .value_name("HEX")
-        .help("Shows the steps in this code segment alone, as 000F");
+        .help("Shows the steps in this code segment alone, as 000F")
+}
+
+/// A subcommand with one file and the choices.
+fn with_file<'a>(alloc: Global, name: &'a str, about: &'a str) -> Result<Command<'a>, AllocError> {
     Command::new(alloc, name)
         .about(about)
-        .arg(from)?
-        .arg(to)?
-        .arg(process)?
-        .arg(selector)?
+        .arg(from_step(alloc))?
+        .arg(to_step(alloc))?
+        .arg(process(alloc))?
+        .arg(selector(alloc))?
         .arg(Arg::new(alloc, "FILE").required(true))
+}
+
+/// A command with one more such subcommand.
+fn with_verb<'a>(
+    alloc: Global,
+    command: Command<'a>,
+    name: &'a str,
+    about: &'a str,
+) -> Result<Command<'a>, AllocError> {
+    let verb = with_file(alloc, name, about)?;
+    command.subcommand(verb)
 }
 
 /// The program's words.
 pub fn program<'a>(alloc: Global) -> Result<Command<'a>, AllocError> {
-    Command::new(alloc, "os2trace")
+    let command = Command::new(alloc, "os2trace")
         .version("1.0.0")
         .about(
             "Runs what os2run runs, and shows each step: the process, CS:IP, the instruction, and the registers that it changed",
         )
-        .subcommand_required(true)
-        .subcommand(with_file(alloc, "exe", "Traces an executable")?)?
-        .subcommand(with_file(alloc, "run", "Traces a machine file")?)
+        .subcommand_required(true);
+    let command = with_verb(alloc, command, "exe", "Traces an executable")?;
+    with_verb(alloc, command, "run", "Traces a machine file")
 }
 
 /// The choices in the words; none where the selector is no hexadecimal number from 1 to FFFF.
