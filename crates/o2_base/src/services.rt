@@ -1,5 +1,5 @@
 // The services of the module DOSCALLS.
-ghost use Rattle.std.specs.Prelude.{◌≡◌, ◌≤◌, ◌<◌, slice_get, Some, IfSome, option_map};
+ghost use Rattle.std.specs.Prelude.{◌≡◌, ◌≤◌, Some};
 ghost use Rattle.o2_base.specs.Services.{services, row_at, is_built as has_gate, gate_of, row};
 
 /// A service: a call of the module DOSCALLS, reached by a far call through its gate.

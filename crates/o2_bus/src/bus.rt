@@ -1,5 +1,5 @@
 // What an instruction asks of the segments of its process.
-ghost use Rattle.std.specs.Prelude.{◌≡◌, ◌<◌, ◌≤◌, ℕ, true, length, take, drop, IsOk, IfOk, IfNone, IfSome};
+ghost use Rattle.std.specs.Prelude.{◌≡◌, ◌<◌, ◌≤◌, true, length, take, drop, IsOk, IfOk, IfNone, IfSome};
 ghost use Rattle.o2_isa.specs.declared.instr.Width.TheVariants.{Byte};
 ghost use Rattle.o2_bus.specs.Tens.{ten_of};
 ghost use Rattle.o2_isa.specs.Sizes.{IsSized};

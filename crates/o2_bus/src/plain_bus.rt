@@ -1,5 +1,5 @@
 // A bus over a plain memory of segments.
-ghost use Rattle.std.specs.Prelude.{◌≡◌, ◌<◌, ◌≤◌, ◌+◌, ℕ, length, take, drop, IsOk, IfOk, option_map, None, Some};
+ghost use Rattle.std.specs.Prelude.{◌≡◌, ◌<◌, ◌≤◌, ◌+◌, length, IfOk, option_map, None, Some};
 ghost use Rattle.o2_isa.specs.declared.instr.Width.TheVariants.{Byte};
 ghost use Rattle.o2_isa.specs.View.{with_register, in_register, bound_registers, is_readable, is_writable, load_rules, width_len, put_at, reached, read_name, SameRoom};
 ghost use Rattle.std.specs.Prelude.{slice_get};

@@ -1,5 +1,5 @@
 // What is added to a plain memory of segments, and changed in it.
-ghost use Rattle.std.specs.Prelude.{◌≡◌, ◌≢◌, ◌==◌, ◌&&◌, ◌<◌, ◌≤◌, ◌+◌, ◌++◌, ℕ, Bool, true, false, length, take, drop, slice_get, IfOk, OnOk, OnErr, IsOk, is_ok, if◌then◌else◌, Some, None, not};
+ghost use Rattle.std.specs.Prelude.{◌≡◌, ◌≢◌, ◌==◌, ◌&&◌, ◌<◌, ◌≤◌, ◌+◌, ℕ, false, length, slice_get, IfOk, OnOk, OnErr, is_ok, if◌then◌else◌, Some, None};
 ghost use Rattle.o2_bus.specs.Frames.{IsSeenAs, memory, no_memory};
 ghost use Rattle.o2_bus.specs.Plain.{hold_of, held_in, bytes_in, shown_in, count_in, granted, in_map, segment_bytes, is_shown};
 

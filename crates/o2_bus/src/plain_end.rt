@@ -1,6 +1,5 @@
 // The end of a process, and the names that nobody holds.
-ghost use Rattle.std.specs.Prelude.{◌≡◌, ◌<◌, ◌==◌, ℕ, List, [], length, slice_get, None, if◌then◌else◌};
-ghost use Rattle.std.specs.List.{list_any};
+ghost use Rattle.std.specs.Prelude.{◌≡◌, ◌<◌, ◌==◌, ℕ, [], length, slice_get, None, if◌then◌else◌};
 ghost use Rattle.o2_bus.specs.Plain.{held_in, bytes_in, segment_bytes, is_shown, in_map, PutsBytes};
 ghost use Rattle.o2_bus.specs.Frames.{IsSeenAs, memory};
 ghost use Rattle.o2_bus.specs.Ends.{grants_name, map_names, maps_name, is_held_in};

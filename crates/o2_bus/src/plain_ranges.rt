@@ -1,5 +1,5 @@
 // Ranges of the segments of a plain memory.
-ghost use Rattle.std.specs.Prelude.{◌≡◌, ◌<◌};
+ghost use Rattle.std.specs.Prelude.{◌<◌};
 
 use crate::{PlainBus, Ranges};
 use o2_base::Selector;

@@ -1,5 +1,5 @@
 // Registers by number, and the offset of a memory operand.
-ghost use Rattle.std.specs.Prelude.{◌≡◌, ◌<◌, ◌^◌};
+ghost use Rattle.std.specs.Prelude.{◌≡◌, ◌<◌};
 ghost use Rattle.o2_isa.specs.Registers.{reg16, with_reg16, reg8, with_reg8, sreg, with_sreg, offset_of, accumulator as accumulator_of, with_accumulator};
 ghost use Rattle.o2_isa.specs.Widths.{IsOfWidth};
 

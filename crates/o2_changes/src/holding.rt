@@ -1,5 +1,5 @@
 // A process holds a segment more often.
-ghost use Rattle.std.specs.Prelude.{◌≡◌, ℕ, ◌+◌, ◌<◌, ◌^◌, IfSome, IsSome, true};
+ghost use Rattle.std.specs.Prelude.{◌≡◌, ◌+◌, ◌<◌, ◌^◌, IfSome, IsSome, true};
 ghost use Rattle.o2_desc.specs.Choice.{IsRun};
 ghost use Rattle.o2_regions.specs.Maps.{IsProcess, end_of, first_of, held_at, holds_of, is_reserved, is_taken, region_of};
 ghost use Rattle.o2_store.specs.Shelf.{entry_of};

@@ -1,5 +1,5 @@
 // Segments are made, locked, sized and brought into memory, and descriptors say where they are.
-ghost use Rattle.std.specs.Prelude.{◌≡◌, ◌⊎◌, ℕ, List, ◌+◌, ◌-◌, ◌<◌, ◌≤◌, ◌^◌, length, IsSome, IfSome, None, true, false};
+ghost use Rattle.std.specs.Prelude.{◌≡◌, ℕ, List, ◌-◌, ◌<◌, ◌≤◌, ◌^◌, length, IsSome, IfSome, None, true, false};
 ghost use Rattle.std.specs.Option.{IfNone};
 ghost use Rattle.o2_entries.specs.Tables.{live_numbers};
 ghost use Rattle.o2_service.specs.Told.{OnlyTables};

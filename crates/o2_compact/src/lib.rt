@@ -1,7 +1,7 @@
 //! Moves the ranges of a memory with their bytes, so that no gap lies between them, or so that one of them can grow.
 #![tactic(auto)]
 
-ghost use Rattle.std.specs.Prelude.{◌≡◌, ◌≢◌, ℕ, ◌+◌, ◌<◌, ◌≤◌, ◌-◌, Some, None, length, IsSome, take};
+ghost use Rattle.std.specs.Prelude.{◌≡◌, ℕ, ◌+◌, ◌<◌, ◌≤◌, ◌-◌, Some, length, IsSome, take};
 ghost use Rattle.o2_place.specs.Layout.{IsFree, IsPacked, find_in, used, end_before, start_of, range_at, reshaped};
 ghost use Rattle.o2_compact.specs.Parts.{KeepsParts, OpensGap, length_of, GrowsInPlace, MovesAlone, SlideBehind, StayBut, StayInFront};
 

@@ -1,5 +1,5 @@
 // Arrays of strings.
-ghost use Rattle.std.specs.Prelude.{◌≡◌, []};
+ghost use Rattle.std.specs.Prelude.{[]};
 ghost use Rattle.toml.specs.View.{items_view, view};
 ghost use Rattle.o2_conf.specs.Steps.{Gives, each};
 ghost use Rattle.o2_conf.specs.Values.{text_step, texts_of};

@@ -1,8 +1,8 @@
 // One step over any bus.
-ghost use Rattle.std.specs.Prelude.{◌≡◌, ◌≤◌, ℕ, true, false, length};
+ghost use Rattle.std.specs.Prelude.{◌≡◌, ℕ, true, false};
 ghost use Rattle.o2_isa.specs.Reading.{decoded};
 ghost use Rattle.o2_isa.specs.View.{Filling, IsBound, KeepsFrame, Agrees, fetched};
-ghost use Rattle.o2_isa.specs.Steps.{run, state, State};
+ghost use Rattle.o2_isa.specs.Steps.{run, state};
 ghost use Rattle.o2_isa.specs.Meaning.{meaning};
 ghost use Rattle.o2_isa.specs.Presence.{whole_state, is_in};
 ghost use Rattle.o2_isa.specs.Sizes.{KeepsLengths};

@@ -1,6 +1,6 @@
 // The law of the kinds of segment.
 ghost use Rattle.std.specs.Prelude.{◌≡◌, true, false};
-ghost use Rattle.o2_desc.specs.Bits.{is_present, is_accessed, is_segment, is_code, is_readable, is_writable, privilege_of, rights_of, readable_code, run_only_code, writable_data, read_only_data, call_gate};
+ghost use Rattle.o2_desc.specs.Bits.{is_present, is_segment, is_code, is_readable, is_writable, privilege_of, readable_code, run_only_code, writable_data, read_only_data, call_gate};
 
 use crate::Access;
 

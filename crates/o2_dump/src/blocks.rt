@@ -1,9 +1,8 @@
 // The swap blocks of a segment.
-ghost use Rattle.std.specs.Prelude.{◌≡◌, ◌+◌, ◌*◌, ◌≤◌, ◌<◌, ◌^◌, ℕ, [], ◌∷◌, length, vec_len, IfOk, OnOk};
-ghost use Rattle.std.specs.List.{list_any};
+ghost use Rattle.std.specs.Prelude.{◌≡◌, ◌+◌, ◌*◌, ◌≤◌, ◌<◌, [], length, vec_len, IfOk, OnOk};
 ghost use Rattle.o2_ne.specs.Checks.{all_hold};
 ghost use Rattle.o2_ne.specs.Steps.{Gives, steps};
-ghost use Rattle.o2_dump.specs.SegmentEntries.{block_checks, block_step, is_among, is_block, next_block};
+ghost use Rattle.o2_dump.specs.SegmentEntries.{block_checks, block_step, is_among, is_block};
 
 use crate::fault::CoreFault;
 use crate::fields::need;

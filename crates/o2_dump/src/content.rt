@@ -1,5 +1,5 @@
 // The bytes of a segment.
-ghost use Rattle.std.specs.Prelude.{◌≡◌, ◌-◌, ◌++◌, drop, length, replicate, take, IfOk};
+ghost use Rattle.std.specs.Prelude.{◌≡◌, ◌-◌, drop, replicate, take, IfOk};
 ghost use Rattle.o2_dump.specs.CoreImage.{bytes_of, joined, kept_bytes};
 
 use crate::parts::{Block, Place, SegmentEntry};

@@ -1,11 +1,10 @@
 // Where the kept bytes of a segment are.
-ghost use Rattle.std.specs.Prelude.{◌≡◌, ◌+◌, ◌*◌, ◌≤◌, ◌<◌, ℕ, true, List, [], ◌∷◌, length, IfOk, OnOk};
-ghost use Rattle.o2_ne.specs.Checks.{all_hold};
-ghost use Rattle.o2_ne.specs.Steps.{Gives, steps};
+ghost use Rattle.std.specs.Prelude.{◌≡◌, ◌+◌, ◌≤◌, ◌<◌, ℕ, true, List, length, IfOk, OnOk};
+ghost use Rattle.o2_ne.specs.Steps.{Gives};
 ghost use Rattle.o2_dump.specs.declared.parts.SegmentEntry.{SegmentEntry};
 ghost use Rattle.o2_dump.specs.FoundIndex.{fits};
 ghost use Rattle.o2_ne.specs.Words.{long_at};
-ghost use Rattle.o2_dump.specs.SegmentEntries.{count_at, image_at, is_range, memory_at, memory_checks, place_at, place_len, swap_at};
+ghost use Rattle.o2_dump.specs.SegmentEntries.{count_at, image_at, is_range, memory_at, place_at, place_len, swap_at};
 
 use crate::blocks::blocks_of;
 use crate::fault::CoreFault;

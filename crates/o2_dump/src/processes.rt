@@ -1,9 +1,9 @@
 // The processes.
-ghost use Rattle.std.specs.Prelude.{◌≡◌, ◌+◌, ◌*◌, ◌≤◌, ◌<◌, ◌^◌, ℕ, [], ◌∷◌, length, IfOk, OnOk};
+ghost use Rattle.std.specs.Prelude.{◌≡◌, ◌+◌, ◌≤◌, ◌<◌, length, IfOk, OnOk};
 ghost use Rattle.o2_ne.specs.Checks.{all_hold};
 ghost use Rattle.o2_ne.specs.Steps.{Gives, steps};
 ghost use Rattle.o2_dump.specs.Readings.{held_so_far, processes_so_far};
-ghost use Rattle.o2_dump.specs.ProcessEntries.{held_of, process_at, process_checks, process_step, state_of};
+ghost use Rattle.o2_dump.specs.ProcessEntries.{held_of, process_checks, process_step, state_of};
 
 use crate::fault::CoreFault;
 use crate::fields::{need, registers_at};

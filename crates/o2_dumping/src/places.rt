@@ -1,5 +1,5 @@
 // The numbers of segments in an image.
-ghost use Rattle.std.specs.Prelude.{◌≡◌, ◌<◌, ◌≤◌, length, slice_index, nat_lt};
+ghost use Rattle.std.specs.Prelude.{◌≡◌, ◌<◌, length, slice_index, nat_lt};
 ghost use Rattle.o2_dumping.specs.Told.{numbers, place_among};
 
 use o2_store::Store;

@@ -1,6 +1,6 @@
 // The segments of an image.
 ghost use Rattle.std.specs.Prelude.{◌≡◌, ℕ, ◌+◌, ◌<◌, ◌≤◌, ◌/◌, ◌++◌, length, flat_map, IsTrue, IsSome, option_map, slice_index, slice_index_or};
-ghost use Rattle.o2_swapmap.specs.Piles.{all_of, blocks_of};
+ghost use Rattle.o2_swapmap.specs.Piles.{all_of};
 ghost use Rattle.o2_store.specs.Shelf.{entry_of, place_of};
 ghost use Rattle.o2_dump.specs.CoreBytes.{segment_bytes};
 ghost use Rattle.o2_dumping.specs.Fits.{FitsAt, IsFitPlace};

@@ -1,14 +1,13 @@
 // Linking: its checks in their order, and what it gives.
-ghost use Rattle.std.specs.Prelude.{◌≡◌, ◌+◌, ◌≤◌, ◌<◌, ℕ, [], get_or, length, map, All, IfOk, OnOk, Ok, Some};
+ghost use Rattle.std.specs.Prelude.{◌≡◌, ◌+◌, ◌≤◌, ◌<◌, [], get_or, length, map, All, IfOk, OnOk, Ok, Some};
 ghost use Rattle.std.specs.List.{zip};
 ghost use Rattle.o2_conf.specs.Environments.{environment_bytes};
 ghost use Rattle.o2_ne.specs.Steps.{Gives, over};
 ghost use Rattle.o2_image.specs.ImageList.{Exists};
-ghost use Rattle.o2_image.specs.Parts.{Parts};
 ghost use Rattle.o2_dynlink.specs.Imports.{each, gather};
 ghost use Rattle.o2_dynlink.specs.Linking.{at_place, linked_of, module_step, module_targets, name_step, outcome, program_of, region_step};
 ghost use Rattle.o2_dynlink.specs.Outcome.{AllFit, Fitting};
-ghost use Rattle.o2_dynlink.specs.Selectors.{base_at, bases_of, index_of};
+ghost use Rattle.o2_dynlink.specs.Selectors.{base_at, bases_of};
 
 use crate::environments::environments_of;
 use crate::fault::LinkFault;

@@ -1,5 +1,5 @@
 // Where all records of a module lead. A record that several segments have is looked up once, and its target is held once.
-ghost use Rattle.std.specs.Prelude.{◌≡◌, ◌+◌, ◌≤◌, ◌<◌, length, map, if◌then◌else◌, IfOk, IfSome, Ok, Some};
+ghost use Rattle.std.specs.Prelude.{◌≡◌, ◌≤◌, ◌<◌, length, map, if◌then◌else◌, IfOk, IfSome, Ok, Some};
 ghost use Rattle.o2_ne.specs.Steps.{Gives};
 ghost use Rattle.o2_image.specs.Alike.{Precedes};
 ghost use Rattle.o2_image.specs.Getters.{nth_list};

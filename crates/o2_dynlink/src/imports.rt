@@ -1,11 +1,10 @@
 // Where the records of a module lead: within it, to a service, or to what a library exports.
-ghost use Rattle.std.specs.Prelude.{◌≡◌, ◌+◌, ◌-◌, ◌≤◌, ◌<◌, ℕ, drop, length, map, option_and_then, option_map, slice_get, IfSome, Ok, Some};
-ghost use Rattle.o2_ne.specs.Steps.{Gives, over};
+ghost use Rattle.std.specs.Prelude.{◌≡◌, ◌-◌, ◌≤◌, ◌<◌, drop, length, map, option_and_then, slice_get, IfSome, Ok, Some};
+ghost use Rattle.o2_ne.specs.Steps.{Gives};
 ghost use Rattle.o2_ne.specs.EntryTable.{target_of};
 ghost use Rattle.o2_ne.specs.NameTable.{ordinal_of};
 ghost use Rattle.o2_image.specs.Getters.{imported_name, nth, nth_list};
 ghost use Rattle.o2_image.specs.ImageList.{Exists};
-ghost use Rattle.o2_image.specs.Images.{Target};
 ghost use Rattle.o2_image.specs.Targets.{target_kind};
 ghost use Rattle.o2_dynlink.specs.Imports.{each, exported, exported_as, gather, import_name, import_ordinal, import_text, imported, internal, target_in};
 ghost use Rattle.o2_dynlink.specs.Leads.{lead_of};

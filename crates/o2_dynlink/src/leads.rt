@@ -1,5 +1,5 @@
 // Where the references of a module lead: to the services' module, or to a listed library. Each is looked up once.
-ghost use Rattle.std.specs.Prelude.{◌≡◌, ◌+◌, ◌≤◌, ◌<◌, ◌∷◌, ◌++◌, [], length, map, take, slice_get, IfOk, OnOk};
+ghost use Rattle.std.specs.Prelude.{◌≡◌, ◌+◌, ◌≤◌, ◌<◌, ◌∷◌, ◌++◌, [], length, map, IfOk, OnOk};
 ghost use Rattle.o2_image.specs.Getters.{nth};
 ghost use Rattle.o2_dynlink.specs.Leads.{lead_of};
 

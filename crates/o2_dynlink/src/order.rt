@@ -1,5 +1,5 @@
 // The order in which the records of a module's segments are gone through: as they lie in the file.
-ghost use Rattle.std.specs.Prelude.{◌≡◌, ◌+◌, ◌≤◌, ◌<◌, ℕ, get_or, length, IfOk, IfSome};
+ghost use Rattle.std.specs.Prelude.{◌≡◌, ◌+◌, ◌≤◌, ◌<◌, get_or, length, IfOk, IfSome};
 ghost use Rattle.o2_ne.specs.Steps.{tabulate};
 ghost use Rattle.o2_dynlink.specs.Memo.{AreAt};
 

@@ -1,5 +1,5 @@
 // Refusals, which own the names that they tell.
-ghost use Rattle.std.specs.Prelude.{ℕ, List, map, Err};
+ghost use Rattle.std.specs.Prelude.{ℕ, List, Err};
 ghost use Rattle.o2_base.specs.declared.faults.ModuleFault.TheVariants as fault;
 ghost use Rattle.o2_ne.specs.Steps.{Gives};
 ghost use Rattle.o2_image.specs.Images.{Target};

@@ -1,5 +1,5 @@
 // Which index of the local descriptor table each segment of a module has, and its selector.
-ghost use Rattle.std.specs.Prelude.{◌≡◌, ◌+◌, ◌*◌, ◌≤◌, length, IfOk};
+ghost use Rattle.std.specs.Prelude.{◌≡◌, ◌+◌, ◌≤◌, length, IfOk};
 ghost use Rattle.o2_image.specs.ImageList.{Exists};
 ghost use Rattle.o2_dynlink.specs.Selectors.{base_after, base_at, bases_of, point, shared_after};
 

@@ -1,5 +1,5 @@
 // Imports of the services' module.
-ghost use Rattle.std.specs.Prelude.{◌≡◌, ◌≤◌, ◌==◌, find, option_map, IsTrue};
+ghost use Rattle.std.specs.Prelude.{◌≡◌, ◌==◌, find, option_map, IsTrue};
 ghost use Rattle.o2_base.specs.Services.{gate_of, is_built};
 ghost use Rattle.o2_base.specs.declared.faults.ModuleFault.TheVariants as fault;
 ghost use Rattle.o2_ne.specs.Steps.{Gives};

@@ -1,5 +1,4 @@
 // DAA, DAS, AAA, AAS, AAM and AAD.
-ghost use Rattle.std.specs.Prelude.{◌≡◌};
 ghost use Rattle.o2_isa.specs.Steps.{Gives, state, run};
 ghost use Rattle.o2_isa.specs.DataArith.{adjust as adjust_steps};
 

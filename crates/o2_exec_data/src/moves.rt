@@ -1,5 +1,4 @@
 // MOV, XCHG, XLAT, CBW and CWD.
-ghost use Rattle.std.specs.Prelude.{◌≡◌};
 ghost use Rattle.o2_isa.specs.Steps.{Gives, state, run};
 ghost use Rattle.o2_isa.specs.DataMoves.{mov as mov_steps, mov_sreg, mov_into, exchanging, xchg, xlat, cbw, cwd};
 

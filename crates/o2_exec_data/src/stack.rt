@@ -1,5 +1,4 @@
 // PUSH, POP, PUSHA, POPA, PUSHF and POPF.
-ghost use Rattle.std.specs.Prelude.{◌≡◌};
 ghost use Rattle.o2_isa.specs.Steps.{Gives, state, run};
 ghost use Rattle.o2_isa.specs.DataStack.{pushing, push, pushf, pop, pop_sreg, pop_into, popf, pusha, popa};
 

@@ -1,5 +1,4 @@
 // Calls.
-ghost use Rattle.std.specs.Prelude.{◌≡◌};
 ghost use Rattle.o2_isa.specs.declared.instr.Width.TheVariants.{Word};
 ghost use Rattle.o2_isa.specs.Steps.{Gives, state, run, valued, pair_valued};
 ghost use Rattle.o2_isa.specs.FlowCalls.{call, call_far};

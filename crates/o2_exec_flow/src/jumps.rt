@@ -1,5 +1,5 @@
 // Jumps.
-ghost use Rattle.std.specs.Prelude.{◌≡◌, ◌&&◌, ◌==◌, not};
+ghost use Rattle.std.specs.Prelude.{◌≡◌, ◌&&◌};
 ghost use Rattle.o2_isa.specs.declared.instr.Width.TheVariants.{Word};
 ghost use Rattle.o2_isa.specs.Steps.{Gives, state, run, valued, pair_valued};
 ghost use Rattle.o2_isa.specs.FlowJumps.{is_less as is_less_of, jmp, jmp_if, loop_if, jmp_far};

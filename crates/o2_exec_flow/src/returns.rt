@@ -1,5 +1,4 @@
 // Returns.
-ghost use Rattle.std.specs.Prelude.{◌≡◌};
 ghost use Rattle.o2_isa.specs.Steps.{Gives, state, run};
 ghost use Rattle.o2_isa.specs.FlowCalls.{ret, retf, iret, iret_unnested};
 

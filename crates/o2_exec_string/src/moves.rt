@@ -1,5 +1,4 @@
 // MOVS, STOS and LODS. The width is looked at once, so that what follows is made for each width.
-ghost use Rattle.std.specs.Prelude.{◌≡◌};
 ghost use Rattle.o2_isa.specs.Steps.{Gives, state, run};
 ghost use Rattle.o2_isa.specs.StringRows.{movs as movs_steps, stos as stos_steps, lods as lods_steps};
 

@@ -1,8 +1,8 @@
 // The places that a record patches.
-ghost use Rattle.std.specs.Prelude.{◌≡◌, ◌+◌, ◌≤◌, ◌<◌, ◌^◌, length, false, OnOk};
+ghost use Rattle.std.specs.Prelude.{◌≡◌, ◌+◌, ◌≤◌, ◌<◌, length, false, OnOk};
 ghost use Rattle.o2_ne.specs.Steps.{steps};
 ghost use Rattle.o2_image.specs.Faults.{RecordStepsTo};
-ghost use Rattle.o2_image.specs.Chains.{Marks, Walk, any_patched, chain, chain_step, patched, places, single};
+ghost use Rattle.o2_image.specs.Chains.{any_patched, chain, chain_step, patched, places, single};
 ghost use Rattle.o2_image.specs.ChainViews.{Walks, walk};
 ghost use Rattle.o2_image.specs.Whole.{Fit};
 

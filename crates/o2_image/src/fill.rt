@@ -1,11 +1,11 @@
 // The image of a segment: its bytes in the file, with the patches of its records.
-ghost use Rattle.std.specs.Prelude.{◌≡◌, ◌≢◌, ◌+◌, ◌*◌, ◌≤◌, ◌<◌, ◌^◌, ◌==◌, ◌++◌, ℕ, [], false, fold, get_or, if◌then◌else◌, length, map, slice_index, IsTrue};
+ghost use Rattle.std.specs.Prelude.{◌≡◌, ◌+◌, ◌*◌, ◌≤◌, ◌<◌, ◌^◌, ◌==◌, ◌++◌, ℕ, [], false, fold, get_or, if◌then◌else◌, length, map, slice_index, IsTrue};
 ghost use Rattle.o2_ne.specs.Words.{byte_at, word_at};
 ghost use Rattle.o2_ne_segs.specs.Records.{reloc_count, relocs_in};
 ghost use Rattle.o2_image.specs.Alike.{row_of};
 ghost use Rattle.o2_image.specs.Chains.{places};
-ghost use Rattle.o2_image.specs.Images.{all_patches, byte_after, image, offset_part, patch_at, patch_bytes, patches_of, places_of, word_bytes};
-ghost use Rattle.o2_image.specs.Records.{bytes_of, has_one_place};
+ghost use Rattle.o2_image.specs.Images.{all_patches, byte_after, image, offset_part, patch_at, patches_of, word_bytes};
+ghost use Rattle.o2_image.specs.Records.{bytes_of};
 ghost use Rattle.o2_image.specs.Targets.{is_additive, is_fixup, width_of};
 ghost use Rattle.o2_image.specs.Whole.{Fit, HasPlaces, HasSegment};
 

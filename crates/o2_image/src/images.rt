@@ -1,5 +1,5 @@
 // The targets of records, and the images of a run.
-ghost use Rattle.std.specs.Prelude.{[], ◌≡◌, ◌+◌, ◌≤◌, ◌<◌, ◌↔◌, ◌^◌, ℕ, get_or, length, map, option_map, slice_get, IsTrue, Some};
+ghost use Rattle.std.specs.Prelude.{[], ◌≡◌, ◌+◌, ◌<◌, ◌↔◌, ◌^◌, ℕ, get_or, length, map, option_map, slice_get, IsTrue, Some};
 ghost use Rattle.o2_ne_segs.specs.declared.segment.Segment.{Segment};
 ghost use Rattle.o2_ne_segs.specs.Records.{relocs_in};
 ghost use Rattle.o2_image.specs.Alike.{part_of, parts_of, row_of};

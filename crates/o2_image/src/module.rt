@@ -1,5 +1,5 @@
 // A module: a file that passed every check.
-ghost use Rattle.std.specs.Prelude.{◌≡◌, ◌+◌, ◌≤◌, ◌<◌, ◌∷◌, [], ℕ, get_or, length, option_map, IfOk, IfSome, IsTrue, OnOk};
+ghost use Rattle.std.specs.Prelude.{◌≡◌, ◌+◌, ◌≤◌, ◌<◌, ℕ, get_or, length, option_map, IfOk, IfSome, OnOk};
 ghost use Rattle.o2_ne.specs.Checks.{all_hold};
 ghost use Rattle.o2_ne.specs.EntryTable.{entries_of};
 ghost use Rattle.o2_ne.specs.Header.{head_of};

@@ -1,9 +1,8 @@
 // The module references and the imported names.
-ghost use Rattle.std.specs.Prelude.{◌≡◌, ◌+◌, ◌*◌, ◌≤◌, ◌<◌, ℕ, length, IsTrue, OnOk, IfOk, Ok};
+ghost use Rattle.std.specs.Prelude.{◌≡◌, ◌+◌, ◌*◌, ◌≤◌, ◌<◌, ℕ, length, IsTrue, OnOk, Ok};
 ghost use Rattle.o2_ne.specs.Checks.{all_hold};
-ghost use Rattle.o2_ne.specs.Words.{byte_at, word_at};
 ghost use Rattle.o2_image.specs.Faults.{StepsTo};
-ghost use Rattle.o2_image.specs.References.{all_references, counted_string, has_string, imported_place, reference_at, reference_place, reference_step, reference_word, string_checks};
+ghost use Rattle.o2_image.specs.References.{all_references, counted_string, has_string, imported_place, reference_at, reference_step, reference_word, string_checks};
 ghost use Rattle.o2_image.specs.Whole.{HasReference, HasString};
 
 use o2_base::ModuleFault;

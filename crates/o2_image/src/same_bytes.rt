@@ -1,5 +1,5 @@
 // Segments over the same bytes of the file, which have the same records.
-ghost use Rattle.std.specs.Prelude.{◌≡◌, ◌+◌, ◌*◌, ◌<◌, ◌≤◌, length, IfSome};
+ghost use Rattle.std.specs.Prelude.{◌≡◌, ◌+◌, ◌*◌, ◌<◌, IfSome};
 ghost use Rattle.std.specs.List.{list_any};
 ghost use Rattle.o2_ne_segs.specs.Records.{end_of, relocs_in};
 ghost use Rattle.o2_image.specs.Alike.{is_alike, HasPart, Precedes};

@@ -1,5 +1,5 @@
 // Laws over the meanings of all instructions.
-ghost use Rattle.std.specs.Prelude.{◌≡◌, ◌≤◌, ℕ, Bool, true, false, [], length, Err};
+ghost use Rattle.std.specs.Prelude.{◌≡◌, ◌≤◌, ℕ, true, false, [], length, Err};
 ghost use Rattle.o2_base.specs.declared.selector.Selector.{Selector};
 ghost use Rattle.o2_isa.specs.declared.cpu.Cpu.{Cpu};
 ghost use Rattle.o2_isa.specs.declared.cpu.Outcome.{Outcome};

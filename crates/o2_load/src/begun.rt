@@ -1,5 +1,5 @@
 // All processes of a machine file start over byte vectors.
-ghost use Rattle.std.specs.Prelude.{◌≡◌, ◌≤◌, ◌+◌, length, map, IfOk};
+ghost use Rattle.std.specs.Prelude.{◌≡◌, length, map, IfOk};
 ghost use Rattle.o2_conf.specs.Environments.{environment_bytes};
 ghost use Rattle.o2_conf.specs.Limits.{IsWithinLimits};
 ghost use Rattle.o2_world.specs.Starts.{all_started};

@@ -1,11 +1,11 @@
 // Names and holds, as processes start one after the other.
-ghost use Rattle.std.specs.Prelude.{◌≡◌, ◌≢◌, ◌≤◌, ◌<◌, ◌+◌, ◌*◌, ◌++◌, ◌∷◌, [], ℕ, List, All, length, Some, None, true, Option, IfOk, IfSome, OnOk, if◌then◌else◌};
+ghost use Rattle.std.specs.Prelude.{◌≡◌, ◌≤◌, ◌<◌, ◌+◌, [], ℕ, List, All, None, true, Option, IfOk, IfSome, OnOk, if◌then◌else◌};
 ghost use Rattle.o2_base.specs.Selectors.{selector_of};
 ghost use Rattle.o2_desc.specs.Bits.{is_kind};
 ghost use Rattle.o2_image.specs.ImageList.{ImageList, HasImage};
 ghost use Rattle.o2_dynlink.specs.Outcome.{LinkedParts};
 ghost use Rattle.o2_world.specs.declared.types.Made.{Made as MadeThere};
-ghost use Rattle.o2_world.specs.Starts.{name_in, made_with, named, holds, holds_as, with_holding, Built};
+ghost use Rattle.o2_world.specs.Starts.{name_in, made_with, holds, Built};
 ghost use Rattle.o2_load.specs.Memory.{MakesName, KeepsHolds, OthersStay};
 ghost use Rattle.o2_load.specs.Holds.{IsHolding, IsReady, Makes, AddsNew, gripped, stage, bytes_with_room};
 

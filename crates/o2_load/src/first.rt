@@ -1,10 +1,9 @@
 // Why a module isn't started, and the first registers of its process.
-ghost use Rattle.std.specs.Prelude.{◌≡◌, ◌≤◌, ◌<◌, ◌+◌, ◌-◌, ◌%◌, ℕ, length, true, Ok, Some, option_map, if◌then◌else◌, ◌==◌};
+ghost use Rattle.std.specs.Prelude.{◌≡◌, ◌≤◌, ◌<◌, ◌+◌, ◌-◌, ◌%◌, Ok, Some, ◌==◌};
 ghost use Rattle.o2_isa.specs.View.{is_code, is_writable};
-ghost use Rattle.o2_ne_segs.specs.SegmentTable.{nth_segment};
 ghost use Rattle.o2_image.specs.ImageList.{ImageList};
 ghost use Rattle.o2_world.specs.Opening.{even};
-ghost use Rattle.o2_load.specs.Loads.{rights_of, is_stack_segment, is_entry_segment, stack_of, parts_check, parts_cpu, size_in};
+ghost use Rattle.o2_load.specs.Loads.{rights_of, is_stack_segment, is_entry_segment, stack_of, parts_check, parts_cpu};
 
 use crate::build::selector_of;
 use crate::module_segments::rights_of;

@@ -1,11 +1,10 @@
 // The segments of a module, as a process holds them.
-ghost use Rattle.std.specs.Prelude.{◌≡◌, ◌≢◌, ◌≤◌, ◌<◌, ◌+◌, ℕ, List, length, nat_le, true, Some, OnOk, option_map, if◌then◌else◌, ◌==◌};
+ghost use Rattle.std.specs.Prelude.{◌≡◌, ◌<◌, ◌+◌, ℕ, List, true, Some, OnOk, option_map, ◌==◌};
 ghost use Rattle.o2_desc.specs.Bits.{is_kind};
 ghost use Rattle.o2_ne_segs.specs.declared.segment.Segment.{Segment};
 ghost use Rattle.o2_ne_segs.specs.SegmentTable.{nth_segment};
 ghost use Rattle.o2_image.specs.Getters.{nth};
 ghost use Rattle.o2_image.specs.ImageList.{ImageList, Exists};
-ghost use Rattle.o2_image.specs.Parts.{Parts};
 ghost use Rattle.o2_world.specs.Starts.{is_common};
 ghost use Rattle.o2_load.specs.Memory.{OthersStay};
 ghost use Rattle.o2_load.specs.Holds.{IsReady, Adds, gripped, stage};

@@ -1,5 +1,5 @@
 // The start of one process.
-ghost use Rattle.std.specs.Prelude.{◌≡◌, ◌≢◌, ◌≤◌, ◌<◌, ◌+◌, ℕ, List, All, length, Some, Ok, IfOk, OnOk, option_map};
+ghost use Rattle.std.specs.Prelude.{◌≡◌, ◌≤◌, ◌<◌, ℕ, length, Some, Ok, OnOk, option_map};
 ghost use Rattle.o2_image.specs.Getters.{nth, nth_list};
 ghost use Rattle.o2_image.specs.ImageList.{Exists};
 ghost use Rattle.o2_conf.specs.declared.process.Process.{Process};
@@ -7,7 +7,7 @@ ghost use Rattle.o2_conf.specs.Environments.{environment_bytes, command_place};
 ghost use Rattle.o2_world.specs.Starts.{Built, holdings};
 ghost use Rattle.o2_load.specs.Memory.{OthersStay};
 ghost use Rattle.o2_load.specs.Holds.{IsHolding, IsReady, AddsAll, stage};
-ghost use Rattle.o2_load.specs.Loads.{start_of, program_place, parts_check};
+ghost use Rattle.o2_load.specs.Loads.{start_of, program_place};
 ghost use Rattle.o2_load.specs.Started.{StartsAs};
 
 use crate::build::Build;

@@ -1,5 +1,5 @@
 // The processes that have started so far.
-ghost use Rattle.std.specs.Prelude.{◌≡◌, ◌≢◌, ◌≤◌, ◌<◌, ◌+◌, [], ℕ, List, length, Ok, OnOk};
+ghost use Rattle.std.specs.Prelude.{◌≡◌, ◌≤◌, ◌<◌, ◌+◌, ℕ, length, Ok, OnOk};
 ghost use Rattle.o2_conf.specs.declared.process.Process.{Process};
 ghost use Rattle.o2_conf.specs.Environments.{environment_bytes, command_place};
 ghost use Rattle.o2_image.specs.Getters.{nth_list};

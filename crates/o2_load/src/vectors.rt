@@ -1,5 +1,5 @@
 // Byte vectors as the memory in which processes start.
-ghost use Rattle.std.specs.Prelude.{◌≡◌, ◌≤◌, ◌<◌, ◌+◌, ◌++◌, ℕ, length, replicate, IfOk};
+ghost use Rattle.std.specs.Prelude.{◌≡◌, ◌≤◌, ◌<◌, ◌+◌, ◌++◌, length, replicate, IfOk};
 ghost use Rattle.o2_bus.specs.Plain.{bytes_in};
 ghost use Rattle.o2_image.specs.ImageList.{ImageList, HasImage, image_front};
 ghost use Rattle.o2_world.specs.Views.{segment_bytes};

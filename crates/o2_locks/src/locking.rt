@@ -1,5 +1,5 @@
 // DosLockSeg.
-ghost use Rattle.std.specs.Prelude.{◌≡◌, ℕ, ◌<◌, ◌≤◌, ◌/◌, IsTrue, None, Some, IfSome, IsSome, true, if◌then◌else◌, ◌⊎◌};
+ghost use Rattle.std.specs.Prelude.{◌≡◌, ℕ, ◌<◌, ◌/◌, IsTrue, None, Some, IfSome, IsSome, true, if◌then◌else◌, ◌⊎◌};
 ghost use Rattle.o2_isa.specs.View.{is_local};
 ghost use Rattle.o2_regions.specs.Maps.{held_at};
 ghost use Rattle.o2_store.specs.Loads.{live_load, swap_load};

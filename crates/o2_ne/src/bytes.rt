@@ -1,7 +1,7 @@
 // Numbers in a file, and which of its bytes are there.
 ghost use Rattle.std.specs.Prelude.{◌≡◌, ◌+◌, ◌≤◌, [], ◌∷◌, length};
 ghost use Rattle.o2_ne.specs.Checks.{all_hold, bytes_in};
-ghost use Rattle.o2_ne.specs.Words.{word_at, long_at, lies_in, first_missing};
+ghost use Rattle.o2_ne.specs.Words.{word_at, long_at, lies_in};
 
 use byteorder::{ByteOrder, LittleEndian};
 use o2_base::{Fail, ModuleFault, NeFault, SegFault};

@@ -1,8 +1,8 @@
-ghost use Rattle.std.specs.Prelude.{◌≡◌, ◌+◌, ◌*◌, ◌≤◌, ◌<◌, ◌^◌, length, List, Option, option_map, find, ◌==◌, slice_get, IfOk};
+ghost use Rattle.std.specs.Prelude.{◌≡◌, ◌+◌, ◌≤◌, ◌<◌, ◌^◌, length, List, Option, ◌==◌, slice_get, IfOk};
 ghost use Rattle.o2_ne.specs.Steps.{Gives, steps};
 ghost use Rattle.o2_ne.specs.Rising.{IsRising};
 ghost use Rattle.o2_ne.specs.EntryPlaces.{BundlesStand};
-ghost use Rattle.o2_ne.specs.EntryTable.{Table, bundle, entry_step, entries_of, is_segment, table_step, target_of};
+ghost use Rattle.o2_ne.specs.EntryTable.{bundle, entry_step, entries_of, is_segment, table_step, target_of};
 
 use crate::bytes::{need, u16_at};
 use crate::head::Head;

@@ -1,5 +1,5 @@
 // Texts in the order of their bytes, with ASCII letters folded.
-ghost use Rattle.std.specs.Prelude.{◌≡◌, map};
+ghost use Rattle.std.specs.Prelude.{◌≡◌};
 ghost use Rattle.std.specs.Ordering.{nat_cmp};
 ghost use Rattle.std.specs.Cmp.Lexicographic.{slice_cmp};
 ghost use Rattle.o2_ne.specs.NameOrder.{folded};

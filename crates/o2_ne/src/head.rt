@@ -1,5 +1,5 @@
 // The header of a segmented executable.
-ghost use Rattle.std.specs.Prelude.{◌≡◌, ◌+◌, ◌≤◌, [], ◌∷◌, length, IfOk, OnOk};
+ghost use Rattle.std.specs.Prelude.{◌≡◌, ◌+◌, ◌≤◌, length, IfOk, OnOk};
 ghost use Rattle.o2_ne.specs.Checks.{all_hold, checked};
 ghost use Rattle.o2_ne.specs.Words.{long_at};
 ghost use Rattle.o2_ne.specs.Header.{head_at, place_checks, place_of_header, profile_checks, head_of};

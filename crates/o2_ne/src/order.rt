@@ -1,9 +1,8 @@
 // Places of names in the order of the folded names.
-ghost use Rattle.std.specs.Prelude.{◌≡◌, ◌+◌, ◌≤◌, ◌<◌, ◌^◌, ℕ, length, slice_get, true, false, IfOk};
-ghost use Rattle.std.specs.Ordering.{is_lt, nat_cmp};
-ghost use Rattle.std.specs.Cmp.Lexicographic.{slice_cmp};
+ghost use Rattle.std.specs.Prelude.{◌≡◌, ◌+◌, ◌≤◌, ◌<◌, length, slice_get, true, false, IfOk};
+ghost use Rattle.std.specs.Ordering.{is_lt};
 ghost use Rattle.std.specs.List.Sorted.{IsPartitionPoint, IsSortedBy};
-ghost use Rattle.o2_ne.specs.NameOrder.{IsIndex, by_name, folded, is_before, ordinal_at, text_of};
+ghost use Rattle.o2_ne.specs.NameOrder.{IsIndex, by_name, is_before, ordinal_at, text_of};
 ghost use Rattle.o2_ne.specs.Words.{byte_at, string_at};
 
 use crate::folded::compare_folded;

@@ -1,6 +1,5 @@
 // The relocation records of a segment.
-ghost use Rattle.std.specs.Prelude.{◌≡◌, ◌+◌, ◌*◌, ◌≤◌, ◌<◌, ◌^◌, ℕ, get_or, length, slice_get, IfOk, OnOk, IsTrue};
-ghost use Rattle.o2_ne.specs.Checks.{all_hold};
+ghost use Rattle.std.specs.Prelude.{◌≡◌, ◌+◌, ◌*◌, ◌≤◌, ◌<◌, ℕ, get_or, length, slice_get, IfOk, OnOk, IsTrue};
 ghost use Rattle.o2_ne_segs.specs.declared.reloc.Reloc.{Reloc};
 ghost use Rattle.o2_ne_segs.specs.SegmentTable.{SegGives};
 ghost use Rattle.o2_ne_segs.specs.Records.{counted, end_of, reloc_at, reloc_count, relocs_at, relocs_of};

@@ -1,7 +1,6 @@
 // The files that a command names: the machine file, and the modules.
-ghost use Rattle.std.specs.Prelude.{◌≡◌, ◌≤◌, ℕ, List, IfOk, IfErr, OnOk, length, [], ◌∷◌, ◌++◌};
+ghost use Rattle.std.specs.Prelude.{◌≡◌, ◌≤◌, ℕ, IfOk, IfErr, OnOk, length, [], ◌∷◌, ◌++◌};
 ghost use Rattle.o2_image.specs.Modules.{module_of};
-ghost use Rattle.o2_image.specs.Whole.{IsRunnable};
 ghost use Rattle.o2_conf.specs.Setting.{setting};
 ghost use Rattle.o2_open.specs.declared.fault.OpenFault.TheVariants as open_fault;
 ghost use Rattle.o2_open.specs.Loads.{Contents, Loads, Tells, Refuses, under, module_in, modules_in, machine_in};

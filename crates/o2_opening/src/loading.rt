@@ -1,5 +1,5 @@
 // A process holds a segment from its start on.
-ghost use Rattle.std.specs.Prelude.{◌≡◌, ◌≤◌, ◌<◌, ℕ, false, true, length, None, IfSome, is_some};
+ghost use Rattle.std.specs.Prelude.{◌≡◌, ◌≤◌, ◌<◌, false, true, length, None, IfSome, is_some};
 ghost use Rattle.o2_regions.specs.declared.held.Region.TheVariants.{Private, Shared};
 ghost use Rattle.o2_regions.specs.Maps.{IsProcess, held_at, is_reserved, table_of, with_reserved};
 ghost use Rattle.o2_opening.specs.Loads.{Clears, Loads};

@@ -1,9 +1,8 @@
 // All processes of a machine file start over a store and the maps of processes.
-ghost use Rattle.std.specs.Prelude.{◌≡◌, ◌≤◌, ◌&&◌, ℕ, List, Ok, length, map, min, nat_le, IfOk};
+ghost use Rattle.std.specs.Prelude.{◌≡◌, ℕ, List, Ok, length, map, min, IfOk};
 ghost use Rattle.o2_conf.specs.Environments.{environment_bytes};
 ghost use Rattle.o2_conf.specs.Limits.{IsWithinLimits};
 ghost use Rattle.o2_regions.specs.Kept.{AreKept};
-ghost use Rattle.o2_regions.specs.Lives.{lives};
 ghost use Rattle.o2_swapmap.specs.Piles.{all_of};
 ghost use Rattle.o2_world.specs.World.{Setting, World};
 ghost use Rattle.o2_world.specs.Starts.{all_started, opening_of};

@@ -1,5 +1,5 @@
 // The indexes of the libraries' segments are reserved for the whole run.
-ghost use Rattle.std.specs.Prelude.{◌≡◌, ◌≤◌, ◌+◌, ◌<◌, ◌&&◌, ℕ, None, true, false, nat_le, nat_lt};
+ghost use Rattle.std.specs.Prelude.{◌≡◌, ◌≤◌, ◌+◌, ◌&&◌, ℕ, None, true, false, nat_le, nat_lt};
 ghost use Rattle.o2_dynlink.specs.Outcome.{modules_of};
 ghost use Rattle.o2_regions.specs.declared.held.Region.TheVariants.{Private, Shared};
 ghost use Rattle.o2_regions.specs.declared.held.Region.{Region as RegionThere};

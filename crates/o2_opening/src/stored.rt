@@ -1,5 +1,5 @@
 // A store and the maps of processes as the memory in which processes start.
-ghost use Rattle.std.specs.Prelude.{◌≡◌, ◌≤◌, ◌+◌, ◌<◌, ◌&&◌, ℕ, true, IsSome, not};
+ghost use Rattle.std.specs.Prelude.{◌≡◌, ◌≤◌, ◌+◌, ◌<◌, ◌&&◌, IsSome, not};
 ghost use Rattle.o2_isa.specs.View.{is_code, is_writable};
 ghost use Rattle.o2_store.specs.Shelf.{entry, entry_of};
 ghost use Rattle.o2_opening.specs.Starting.{stored_seen, stored_names, IsStarting};

@@ -184,7 +184,7 @@ impl<R: rt::Files + Drop> FileSwap<R> {
 }
 
 impl<R: rt::Files + Drop> SwapDevice for FileSwap<R> {
-    ghost use Rattle.std.specs.Prelude.{◌≢◌, ◌<◌, ◌∷◌, ℕ, List, IsTrue, false};
+    ghost use Rattle.std.specs.Prelude.{◌≢◌, ◌<◌, ℕ, List, IsTrue, false};
     ghost use Rattle.o2_outer.specs.Answers.{HasCause, CountsDev};
     ghost use Rattle.o2_outer.specs.Accesses.{all_agree, content, is_known, with_read, with_write};
     ghost use Rattle.o2_outer.specs.Streams.{swap_history, swap_faults, swap_window};

@@ -1,5 +1,5 @@
 // Files in memory: some that fail when told to, and some that never fail.
-ghost use Rattle.std.specs.Prelude.{◌≡◌, ◌≤◌, Some, drop, option_map, List, ℕ, true, false};
+ghost use Rattle.std.specs.Prelude.{◌≡◌, ◌≤◌, Some, option_map, true, false};
 ghost use Rattle.o2_outer.specs.Answers.{Answers, IsBounded, FetchHasCause, CountsFetch};
 ghost use Rattle.o2_outer.specs.Planned.{fails_next, next_call};
 ghost use Rattle.o2_outer.specs.Plans.{mem_files, mem_fetches, mem_fetches_to_fail, mem_fetch_faults, sure_files};

@@ -1,5 +1,5 @@
 // A sink in memory, with its room reserved.
-ghost use Rattle.std.specs.Prelude.{◌≡◌, ◌≤◌, ◌+◌, ◌<◌, ◌++◌, [], List, ℕ, Option, Some, length, vec_len, vec_capacity, IfOk, refl};
+ghost use Rattle.std.specs.Prelude.{◌≡◌, ◌≤◌, ◌+◌, ◌<◌, ◌++◌, [], Some, length, vec_len, vec_capacity, IfOk, refl};
 
 use crate::log::Log;
 use crate::plan::planned;

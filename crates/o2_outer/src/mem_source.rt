@@ -1,5 +1,5 @@
 // A source in memory, which fails when told to.
-ghost use Rattle.std.specs.Prelude.{◌≡◌, ◌≤◌, ◌<◌, List, ℕ, Some, drop, take, length, true, false};
+ghost use Rattle.std.specs.Prelude.{◌≡◌, ◌≤◌, ◌<◌, Some, drop, take, length, true, false};
 
 use crate::plan::fails_now;
 use crate::{Source, Took};

@@ -1,5 +1,5 @@
 // A swap device in memory, which fails when told to.
-ghost use Rattle.std.specs.Prelude.{◌≡◌, ◌≢◌, ◌≤◌, ◌<◌, ◌||◌, List, ℕ, Option, Some, None, length, true, false, IfOk, replicate, slice_set};
+ghost use Rattle.std.specs.Prelude.{◌≡◌, ◌≤◌, ◌<◌, ◌||◌, Option, Some, None, length, true, IfOk, replicate};
 
 use crate::blocks::zero_blocks;
 use crate::plan::fails_now;
@@ -78,7 +78,7 @@ impl MemSwap {
 impl SwapDevice for MemSwap {
     ghost use Rattle.o2_outer.specs.Answers.{HasCause, CountsDev};
     ghost use Rattle.o2_outer.specs.Contents.{block_of};
-    ghost use Rattle.o2_outer.specs.Planned.{fails_next, next_call};
+    ghost use Rattle.o2_outer.specs.Planned.{next_call};
     ghost use Rattle.o2_outer.specs.Devices.{mem_blocks, mem_calls, mem_calls_to_fail, mem_failing_write, mem_write_tries, mem_writes, mem_swap_faults, read_fails, write_fails, device_answer, blocks_written, writes_after};
 
     ghost blocks = { λ s. length (mem_blocks s) };

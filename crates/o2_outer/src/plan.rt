@@ -1,5 +1,5 @@
 // Which calls of a form in memory are to fail.
-ghost use Rattle.std.specs.Prelude.{◌≡◌, option_map};
+ghost use Rattle.std.specs.Prelude.{◌≡◌};
 ghost use Rattle.o2_outer.specs.Planned.{planned_bytes, next_call, fails_next};
 
 /// How many bytes a call takes before it fails, where it is to fail.

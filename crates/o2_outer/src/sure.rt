@@ -1,5 +1,5 @@
 // A source and a device in memory that never fail.
-ghost use Rattle.std.specs.Prelude.{◌≡◌, ◌≤◌, ◌<◌, List, ℕ, Some, drop, take, length, true, IfOk, replicate};
+ghost use Rattle.std.specs.Prelude.{◌≡◌, ◌≤◌, ◌<◌, Some, drop, take, length, true, IfOk, replicate};
 ghost use Rattle.o2_outer.specs.Contents.{block_of};
 
 use crate::blocks::zero_blocks;

@@ -1,7 +1,7 @@
 // The clock: who is present, and who goes next.
-ghost use Rattle.std.specs.Prelude.{◌≡◌, ◌≢◌, ◌⊎◌, ◌↔◌, ℕ, ◌+◌, ◌-◌, ◌<◌, ◌≤◌, ◌^◌, length, IfOk, IfSome, true, false, replicate, slice_index, slice_set, nat_lt, ◌==◌, if◌then◌else◌};
+ghost use Rattle.std.specs.Prelude.{◌≡◌, ◌≢◌, ◌⊎◌, ℕ, ◌+◌, ◌-◌, ◌<◌, ◌≤◌, ◌^◌, length, IfOk, IfSome, true, false, replicate, slice_index, slice_set, nat_lt, ◌==◌, if◌then◌else◌};
 ghost use Rattle.std.specs.Option.{IfNone};
-ghost use Rattle.o2_place.specs.Marks.{no_mark, mark_of, IsPresent, IsUnused, IsOutside, IsKept, OnlyUnmarks, IsVictim, IsRing, IsClock, HasPassed, ComesBefore, IsChosen, Turns, place_in, IsNext, NoneUnused, AllUnused, turn_after};
+ghost use Rattle.o2_place.specs.Marks.{no_mark, mark_of, IsPresent, IsUnused, IsOutside, IsKept, OnlyUnmarks, IsVictim, IsRing, IsClock, HasPassed, IsChosen, Turns, place_in, IsNext, NoneUnused, AllUnused, turn_after};
 
 use o2_base::NoMemory;
 use std::alloc::{AllocError, Global};

@@ -1,5 +1,5 @@
 // The tables of descriptors, with a list of the indexes whose accessed bit was set.
-ghost use Rattle.std.specs.Prelude.{◌≡◌, ◌≢◌, ℕ, ◌+◌, ◌*◌, ◌/◌, ◌%◌, ◌<◌, ◌≤◌, ◌∷◌, [], length, replicate, true, false, IfOk, slice_get, slice_index_or, slice_set};
+ghost use Rattle.std.specs.Prelude.{◌≡◌, ℕ, ◌+◌, ◌*◌, ◌/◌, ◌%◌, ◌<◌, ◌≤◌, ◌∷◌, [], length, replicate, true, false, IfOk, slice_index_or, slice_set};
 ghost use Rattle.std.specs.Borrow.{sem};
 ghost use Rattle.o2_desc.specs.Bits.{is_accessed};
 ghost use Rattle.o2_desc.specs.Bytes.{empty, mark_at};

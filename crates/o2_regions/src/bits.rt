@@ -1,5 +1,5 @@
 // Marks by place, 64 in a word.
-ghost use Rattle.std.specs.Prelude.{◌≡◌, ◌≢◌, ℕ, ◌==◌, ◌+◌, ◌*◌, ◌<◌, ◌≤◌, ◌^◌, false, true, not, length, replicate, slice_index_or, slice_set, IfOk};
+ghost use Rattle.std.specs.Prelude.{◌≡◌, ◌≢◌, ℕ, ◌==◌, ◌+◌, ◌*◌, ◌<◌, ◌≤◌, ◌^◌, false, not, length, replicate, slice_index_or, slice_set, IfOk};
 ghost use Rattle.std.specs.Int.{bit_at};
 ghost use Rattle.o2_desc.specs.Choice.{chosen};
 ghost use Rattle.o2_regions.specs.Maps.{fill};

@@ -3,7 +3,7 @@
 // Behind the places of a table `held` stand the heads of 65,536 lists. `next` leads from a head to the lowest place whose
 // segment's key is the list's number modulo 65,536, from there to the next one up, and from the highest back to the head;
 // `prev` leads the other way.
-ghost use Rattle.std.specs.Prelude.{◌≡◌, ◌≢◌, ℕ, ◌+◌, ◌<◌, ◌≤◌, ◌^◌, length, None, Some, IfOk, IfSome, replicate, slice_index, slice_index_or, slice_set, slice_get};
+ghost use Rattle.std.specs.Prelude.{◌≡◌, ◌≢◌, ℕ, ◌+◌, ◌<◌, ◌^◌, length, None, Some, IfOk, IfSome, slice_index, slice_index_or, slice_set, slice_get};
 ghost use Rattle.o2_regions.specs.declared.held.Held.{Held as HeldThere};
 ghost use Rattle.o2_regions.specs.Links.{AreNext, ArePrev, IsLast, list_of, places_from, stands_in};
 ghost use Rattle.o2_regions.specs.Maps.{is_of};

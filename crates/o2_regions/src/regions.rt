@@ -1,8 +1,8 @@
 // Who holds which index, how often, and what its descriptor says.
-ghost use Rattle.std.specs.Prelude.{None, Some, ◌≡◌, Option, ℕ, ◌+◌, ◌*◌, ◌<◌, ◌≤◌, ◌^◌, ◌∷◌, true, false, not, [], length, replicate, IfOk, IfSome, slice_get, slice_index_or, slice_set};
+ghost use Rattle.std.specs.Prelude.{None, Some, ◌≡◌, Option, ℕ, ◌+◌, ◌*◌, ◌<◌, ◌≤◌, ◌^◌, true, false, not, length, IfOk, IfSome, slice_get};
 ghost use Rattle.std.specs.Borrow.{sem};
 ghost use Rattle.std.specs.Option.{is_some};
-ghost use Rattle.o2_desc.specs.Bytes.{empty, mark_at};
+ghost use Rattle.o2_desc.specs.Bytes.{mark_at};
 ghost use Rattle.o2_desc.specs.Choice.{IsRun, chosen};
 ghost use Rattle.o2_regions.specs.declared.held.Region.{Region as RegionThere};
 ghost use Rattle.o2_regions.specs.Accessed.{ClearsUse, NoneAccessed, with_unused};

@@ -1,5 +1,5 @@
 // One line of the report, in room that is reserved once.
-ghost use Rattle.std.specs.Prelude.{◌≡◌, ◌≤◌, ◌<◌, ◌+◌, ◌^◌, ◌++◌, [], ◌∷◌, List, ℕ, length, decimal, codes, IfOk, vec_len, vec_capacity};
+ghost use Rattle.std.specs.Prelude.{◌≡◌, ◌≤◌, ◌<◌, ◌+◌, ◌++◌, [], ◌∷◌, List, ℕ, length, decimal, IfOk, vec_capacity};
 ghost use Rattle.o2_world.specs.Text.{hex_digit as glyph, hex4, far};
 
 use o2_base::NoMemory;

@@ -1,8 +1,8 @@
 // The lines of the report.
-ghost use Rattle.std.specs.Prelude.{◌≡◌, ◌≤◌, ◌<◌, ◌+◌, ◌*◌, ◌++◌, [], ◌∷◌, List, ℕ, length, codes, flat_map};
+ghost use Rattle.std.specs.Prelude.{◌≡◌, ◌≤◌, ◌<◌, ◌+◌, ◌*◌, ◌++◌, length, flat_map};
 ghost use Rattle.o2_outer.specs.Texts.{Rose};
 ghost use Rattle.o2_outer.specs.Answers.{Takes, Puts, OnFailed};
-ghost use Rattle.o2_world.specs.Text.{argument_text, values_text, line_text, lines_text};
+ghost use Rattle.o2_world.specs.Text.{argument_text, line_text, lines_text};
 ghost use Rattle.o2_world.specs.Opening.{hold_lines, start_lines};
 ghost use Rattle.o2_world.specs.World.{Starts, HoldsBy, DropsBy, Calls, Exits, Ends, Traps};
 

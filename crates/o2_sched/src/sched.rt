@@ -1,5 +1,5 @@
 // The schedule of a run.
-ghost use Rattle.std.specs.Prelude.{◌≡◌, ◌≤◌, ◌<◌, ◌+◌, ◌-◌, true, false, length, map, slice_set, replicate, IfOk};
+ghost use Rattle.std.specs.Prelude.{◌≡◌, ◌≤◌, ◌<◌, ◌+◌, ◌-◌, true, false, length, slice_set, replicate, IfOk};
 ghost use Rattle.std.specs.List.{list_any};
 ghost use Rattle.o2_conf.specs.Dispatch.{counted};
 

@@ -1,5 +1,5 @@
 // Accesses to memory through the descriptor in a register.
-ghost use Rattle.std.specs.Prelude.{◌≡◌, ◌+◌, ◌≤◌, ◌<◌, ◌^◌, ℕ, length, take, drop, IfNone, IfOk, IfSome, true};
+ghost use Rattle.std.specs.Prelude.{◌≡◌, ◌+◌, ◌≤◌, ◌<◌, ◌^◌, length, take, drop, IfNone, IfOk, IfSome, true};
 ghost use Rattle.o2_bus.specs.Tens.{ten_of};
 ghost use Rattle.o2_isa.specs.declared.instr.Width.TheVariants.{Byte};
 ghost use Rattle.o2_isa.specs.View.{is_readable, width_len, put_at, SameRoom};

@@ -1,6 +1,5 @@
 // What an instruction asks of a bus over a store.
-ghost use Rattle.std.specs.Prelude.{◌≡◌, ◌<◌, ◌≤◌, ◌+◌, ℕ, length, take, drop, IsOk, IfOk, Some, None};
-ghost use Rattle.o2_isa.specs.declared.instr.Width.TheVariants.{Byte};
+ghost use Rattle.std.specs.Prelude.{◌<◌, ◌+◌, Some, None};
 ghost use Rattle.o2_segbus.specs.Bus.{bus_view};
 ghost use Rattle.o2_segbus.specs.Sized.{seg_sized};
 

@@ -1,5 +1,5 @@
 // Ranges behind pointers, of segments in memory.
-ghost use Rattle.std.specs.Prelude.{◌≡◌, ◌<◌};
+ghost use Rattle.std.specs.Prelude.{◌<◌};
 
 use crate::SegBus;
 use crate::access::{range, write_bytes};

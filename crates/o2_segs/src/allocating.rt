@@ -1,5 +1,5 @@
 // DosAllocSeg.
-ghost use Rattle.std.specs.Prelude.{◌≡◌, ◌≢◌, ℕ, ◌-◌, ◌<◌, ◌≤◌, ◌^◌, ◌||◌, IsSome, IsTrue, Some, None, false, true, ◌⊎◌};
+ghost use Rattle.std.specs.Prelude.{◌≡◌, ◌≢◌, ℕ, ◌-◌, ◌<◌, ◌^◌, ◌||◌, IsSome, IsTrue, Some, None, false, true, ◌⊎◌};
 ghost use Rattle.o2_base.specs.Selectors.{selector_of};
 ghost use Rattle.o2_desc.specs.Bits.{has_bit, writable_data};
 ghost use Rattle.o2_desc.specs.Choice.{IsRun};

@@ -1,5 +1,5 @@
 // What a step's segments take of the memory together.
-ghost use Rattle.std.specs.Prelude.{◌≡◌, ℕ, ◌+◌, ◌<◌, ◌≤◌, ◌^◌, length, IsSome, max, nat_lt, true};
+ghost use Rattle.std.specs.Prelude.{◌≡◌, ◌+◌, ◌<◌, ◌≤◌, ◌^◌, length, IsSome, max, nat_lt, true};
 ghost use Rattle.o2_store.specs.Shelf.{entry, entry_of};
 ghost use Rattle.o2_service.specs.Needs.{AreLive, ArePresent, all_needed, needed, needs, size_in};
 

@@ -1,5 +1,5 @@
 // The clock learns which segments were used.
-ghost use Rattle.std.specs.Prelude.{◌≡◌, ℕ, ◌<◌, ◌≤◌, Some, IsSome, true, false};
+ghost use Rattle.std.specs.Prelude.{◌≡◌, ◌<◌, Some, IsSome, true, false};
 ghost use Rattle.o2_regions.specs.Accessed.{NoneAccessed};
 ghost use Rattle.o2_place.specs.declared.seg_id.SegId.{SegId as SegIdThere};
 ghost use Rattle.o2_regions.specs.declared.held.Held.{Held as HeldThere};

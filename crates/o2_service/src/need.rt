@@ -1,5 +1,5 @@
 // The segments that a step needs in memory together.
-ghost use Rattle.std.specs.Prelude.{◌≡◌, ◌<◌, ◌≤◌, ◌++◌, ◌∷◌, [], length, take, map, IfSome, true, false};
+ghost use Rattle.std.specs.Prelude.{◌≡◌, ◌<◌, ◌≤◌, ◌++◌, ◌∷◌, [], length, take, IfSome, true, false};
 ghost use Rattle.std.specs.Option.{IfNone};
 ghost use Rattle.o2_service.specs.Needs.{segments_of};
 

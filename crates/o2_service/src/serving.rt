@@ -1,5 +1,5 @@
 // What is needed comes into memory, and the descriptors say so.
-ghost use Rattle.std.specs.Prelude.{◌≡◌, ℕ, ◌+◌, ◌<◌, ◌≤◌, length, None, true, false, IsSome};
+ghost use Rattle.std.specs.Prelude.{◌≡◌, ℕ, ◌<◌, ◌≤◌, length, None, true, false, IsSome};
 ghost use Rattle.o2_segbus.specs.Settled.{IsSettled};
 ghost use Rattle.o2_swapmap.specs.Piles.{all_of};
 ghost use Rattle.o2_store.specs.Frames.{IsBacked, KeepsDevice};

@@ -1,5 +1,5 @@
 // The names of shared segments.
-ghost use Rattle.std.specs.Prelude.{◌≡◌, ℕ, ◌-◌, ◌<◌, ◌≤◌, List, length, replicate, IfOk, IfSome, Some, None, Option, slice_index_or, slice_set};
+ghost use Rattle.std.specs.Prelude.{◌≡◌, ◌-◌, ◌<◌, ◌≤◌, List, length, replicate, IfOk, IfSome, Some, None, Option, slice_set};
 ghost use Rattle.std.specs.Option.{IfNone};
 ghost use Rattle.std.specs.List.{insert};
 ghost use Rattle.std.specs.Vec.{vec_capacity};

@@ -3,9 +3,8 @@ ghost use Rattle.std.specs.Prelude.{◌≡◌, ◌≢◌, ℕ, List, ◌+◌, �
 ghost use Rattle.std.specs.Option.{IfNone};
 ghost use Rattle.o2_entries.specs.declared.Entry.{Entry};
 ghost use Rattle.o2_entries.specs.Tables.{slot_at, live_numbers};
-ghost use Rattle.o2_place.specs.Layout.{Changes};
-ghost use Rattle.o2_swapmap.specs.Piles.{OnlyOf, all_of};
-ghost use Rattle.o2_store.specs.Shelf.{Shelf, Adds, place_of, entry_of, entry, byte_at, Pictures, AreClean, Removes, FollowsLock};
+ghost use Rattle.o2_swapmap.specs.Piles.{all_of};
+ghost use Rattle.o2_store.specs.Shelf.{Adds, place_of, entry_of, entry, byte_at, Pictures, Removes, FollowsLock};
 ghost use Rattle.o2_place.specs.Marks.{mark_of};
 ghost use Rattle.o2_store.specs.Idle.{NoneTaken};
 

@@ -1,5 +1,5 @@
 // What is in memory, and what can't leave it.
-ghost use Rattle.std.specs.Prelude.{◌≡◌, ℕ, ◌+◌, ◌*◌, ◌<◌, ◌≤◌, length, drop, option_map, None, Some, IsSome};
+ghost use Rattle.std.specs.Prelude.{◌≡◌, ◌+◌, ◌*◌, ◌<◌, ◌≤◌, length, drop, option_map, None, Some, IsSome};
 ghost use Rattle.o2_entries.specs.Tables.{slot_at};
 ghost use Rattle.o2_place.specs.Layout.{find_in, range_at};
 ghost use Rattle.o2_store.specs.Shelf.{all_locked, entry_of, numbered, place_of};

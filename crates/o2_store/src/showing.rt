@@ -1,7 +1,6 @@
 // What a store shows of its segments.
-ghost use Rattle.std.specs.Prelude.{◌≡◌, ◌≢◌, ℕ, ◌+◌, ◌<◌, length, Some, None, IsSome, IfSome, option_map, slice_get};
-ghost use Rattle.std.specs.Option.{IfNone};
-ghost use Rattle.o2_entries.specs.Tables.{slot_at, live_numbers};
+ghost use Rattle.std.specs.Prelude.{◌≡◌, ◌<◌, length, Some, None, option_map, slice_get};
+ghost use Rattle.o2_entries.specs.Tables.{live_numbers};
 ghost use Rattle.o2_store.specs.Shelf.{place_of, entry_of, entry, shown_at, kept_of, block_of, numbered};
 
 use crate::brought::Place;

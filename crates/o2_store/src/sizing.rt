@@ -1,5 +1,5 @@
 // Segments get another size.
-ghost use Rattle.std.specs.Prelude.{◌≡◌, ◌≢◌, ℕ, List, Bool, ◌+◌, ◌-◌, ◌<◌, ◌≤◌, ◌↔◌, None, IsSome, is_some, true, false, min, nat_lt};
+ghost use Rattle.std.specs.Prelude.{◌≡◌, ◌≢◌, ℕ, List, Bool, ◌+◌, ◌-◌, ◌<◌, ◌≤◌, None, IsSome, is_some, true, false, min, nat_lt};
 ghost use Rattle.o2_entries.specs.declared.Entry.{Entry};
 ghost use Rattle.o2_entries.specs.Tables.{slot_at};
 ghost use Rattle.o2_place.specs.Layout.{used};

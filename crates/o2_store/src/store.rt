@@ -1,9 +1,9 @@
 // The store: its tables, its memory and its swap blocks.
-ghost use Rattle.std.specs.Prelude.{◌≡◌, ◌≢◌, ℕ, ◌+◌, ◌-◌, ◌<◌, ◌≤◌, ◌^◌, ◌⊎◌, length, Some, None, IsSome, IfOk, slice_index, slice_set, nat_lt, if◌then◌else◌};
+ghost use Rattle.std.specs.Prelude.{◌≡◌, ◌≢◌, ℕ, ◌+◌, ◌-◌, ◌<◌, ◌≤◌, ◌^◌, ◌⊎◌, length, Some, None, IfOk, slice_index, nat_lt, if◌then◌else◌};
 ghost use Rattle.o2_entries.specs.Tables.{slot_at};
 ghost use Rattle.o2_place.specs.Layout.{IsFree, used, len_of, over};
 ghost use Rattle.o2_swapmap.specs.Piles.{NoneTwice, all_of, blocks_of, free};
-ghost use Rattle.o2_store.specs.Shelf.{Shelf, IsShelf, place_of, entry_of, all_locked, locked_need, entry_or, rounded};
+ghost use Rattle.o2_store.specs.Shelf.{Shelf, IsShelf, place_of, entry_of, all_locked, rounded};
 ghost use Rattle.o2_store.specs.Idle.{NoneTaken};
 
 use o2_base::NoMemory;

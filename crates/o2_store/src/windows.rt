@@ -1,10 +1,10 @@
 // Segments in memory: their bytes, their place and their use.
-ghost use Rattle.std.specs.Prelude.{◌≡◌, ◌≢◌, ℕ, List, ◌+◌, ◌<◌, ◌≤◌, ◌↔◌, length, Some, None, IsSome, IsTrue, IfSome, slice_index, option_map, slice_set, true, false};
+ghost use Rattle.std.specs.Prelude.{◌≡◌, ℕ, List, ◌+◌, ◌<◌, ◌≤◌, ◌↔◌, length, Some, None, IsSome, IsTrue, IfSome, slice_index, option_map, slice_set, true, false};
 ghost use Rattle.std.specs.Option.{IfNone};
 ghost use Rattle.std.specs.Borrow.{sem};
 ghost use Rattle.o2_phys.specs.Bytes.{part, with_part};
 ghost use Rattle.o2_store.specs.Lending.{LendsMemory};
-ghost use Rattle.o2_store.specs.Shelf.{Shelf, Pictures, place_of, entry_of, entry, byte_at, base_of};
+ghost use Rattle.o2_store.specs.Shelf.{Pictures, place_of, entry_of, entry, byte_at, base_of};
 
 use crate::store::Store;
 use o2_place::SegId;

@@ -1,7 +1,7 @@
 // The texts of operands.
-ghost use Rattle.std.specs.Prelude.{◌≡◌, ◌<◌, ◌≤◌, ◌++◌, ◌∷◌, [], OnOk};
+ghost use Rattle.std.specs.Prelude.{◌≡◌, ◌<◌, ◌++◌, OnOk};
 ghost use Rattle.o2_text.specs.Text.{digit as glyph, number, address, byte_register, word_register, segment_register, uses_stack, override_text, base_text};
-ghost use Rattle.o2_text.specs.Text.{displacement_text, place_text, memory_text, has_no_size, is_far, width_text, size_text, is_relative, number_text, operand_text};
+ghost use Rattle.o2_text.specs.Text.{displacement_text, place_text, memory_text, has_no_size, size_text, number_text, operand_text};
 ghost use Rattle.o2_text.specs.Text.{behind};
 
 use o2_base::NoMemory;

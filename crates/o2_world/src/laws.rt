@@ -1,5 +1,5 @@
 // Laws of the boundless machine.
-ghost use Rattle.std.specs.Prelude.{◌≡◌, ◌≢◌, ◌-◌, ◌+◌, ◌==◌, ◌&&◌, not, ◌<◌, ◌≤◌, ℕ, ◌++◌, List, [], ◌∷◌, codes, true, false, slice_get, Ok, Some};
+ghost use Rattle.std.specs.Prelude.{◌≡◌, ◌≢◌, ◌+◌, ◌==◌, ◌&&◌, not, ◌<◌, ◌≤◌, ℕ, ◌++◌, List, [], ◌∷◌, codes, true, false, slice_get, Ok, Some};
 ghost use Rattle.o2_conf.specs.declared.script.Word.{Word};
 ghost use Rattle.o2_world.specs.World.{World, Setting, Reserve};
 ghost use Rattle.o2_world.specs.Starts.{Loaded, Start, opening_of};
@@ -43,8 +43,8 @@ ghost use Rattle.o2_world.specs.SharedCalls.{given};
 ghost use Rattle.o2_world.specs.SharedNames.{before_zero, looked_at, name_by};
 ghost use Rattle.o2_world.specs.SharedWorked.{byte_behind, gets, gives, lines_behind, names as names_of, one_left, reserves_behind, shares, texts_behind, told_by_two, two_sharers};
 ghost use Rattle.o2_world.specs.HugeWorked.{data_behind, huges, loaded_behind, rehuges, shifts};
-ghost use Rattle.std.specs.Prelude.{◌*◌, replicate, take};
-ghost use Rattle.o2_world.specs.SegmentsWorked.{some_moves, es_after, ds_after, one_process, two_processes, told_after, told_by_one, after_calls, data_after, allocs, allocs_of, reallocs, frees, sizes, locks, unlocks, aliases, names_with, locked_marks};
+ghost use Rattle.std.specs.Prelude.{replicate, take};
+ghost use Rattle.o2_world.specs.SegmentsWorked.{some_moves, es_after, ds_after, one_process, two_processes, told_after, told_by_one, data_after, allocs, allocs_of, reallocs, frees, sizes, locks, unlocks, aliases, names_with, locked_marks};
 ghost use Rattle.o2_world.specs.Hello.{hello_opening, hello_world, hello_setting, hello_report, hello_start, hello_write, text_of};
 
 /// A program that writes `hello` by DosWrite and ends by DosExit takes ten steps. Its console and its report are these,
