@@ -1,11 +1,11 @@
 // What a step needs comes into a full memory, where nothing slides.
-ghost use Rattle.bus_rows.specs.Trials.{IsReady};
+ghost use Rattle.test_bus_parts.specs.Trials.{IsReady};
 
-use bus_rows::Bench;
 use o2_base::NoMemory;
 use o2_desc::Access;
 use o2_place::SegId;
 use std::alloc::Global;
+use test_bus_parts::Bench;
 
 /// A segment's size in bytes.
 const SIZE: u32 = 4096;

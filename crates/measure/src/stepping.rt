@@ -1,11 +1,11 @@
 // Steps over a plain memory.
 ghost use Rattle.std.specs.Prelude.{◌<◌, ◌≤◌, length};
 
-use bus_rows::count_done;
 use o2_bus::{Cpu, NoMemory, Outcome, Plain};
 use o2_core::step_plain;
 use o2_desc::Access;
 use std::alloc::Global;
+use test_bus_parts::count_done;
 
 /// A jump to itself.
 pub static LOOP: [u8; 2] = [0xEB, 0xFE];

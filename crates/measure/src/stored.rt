@@ -1,13 +1,13 @@
 // Steps over a store.
 ghost use Rattle.std.specs.Prelude.{IfOk};
-ghost use Rattle.bus_rows.specs.Trials.{IsReady};
+ghost use Rattle.test_bus_parts.specs.Trials.{IsReady};
 
 use crate::stepping::start;
-use bus_rows::Bench;
 use o2_base::NoMemory;
 use o2_desc::Access;
 use o2_place::SegId;
 use std::alloc::Global;
+use test_bus_parts::Bench;
 
 /// Process 1 holds these bytes at its lowest free index.
 fn hold(bench: &mut Bench, bytes: &[u8], access: Access) -> Result<(SegId, u32), NoMemory>

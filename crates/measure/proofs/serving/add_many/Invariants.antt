@@ -1,4 +1,4 @@
-use Rattle.bus_rows.specs.Trials.{IsReady}
+use Rattle.test_bus_parts.specs.Trials.{IsReady}
 use Rattle.measure.proofs.serving.add_many.Given as goal
 
 abbrev pub invariant-loop-round : goal.invariant-loop-round

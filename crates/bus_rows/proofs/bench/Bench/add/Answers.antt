@@ -1,8 +1,0 @@
-use Rattle.std.proofs.Common.{refl}
-use Rattle.bus_rows.proofs.Keeping.{added}
-use Rattle.bus_rows.proofs.bench.Bench.add.Goals as goal
-
-pub returns : goal.returns
-returns c =
-    added _ c.args.self.now.store c.make.new.store c.args.self.now.regions _ _ c.make.result c.law.ensures.shelf c.requires.ready refl refl refl
-    c.make.ensures.none c.make.ensures.added c.make.ensures.goes_on.order

@@ -1,6 +1,0 @@
-use Rattle.bus_rows.proofs.Keeping.{holds}
-use Rattle.bus_rows.proofs.bench.Bench.hold.Goals as goal
-
-pub returns : goal.returns
-returns c =
-    holds c.args.self.now.store c.args.self.now.regions c.hold_new.new.regions _ c.requires c.hold_new.ensures.grants.processes c.hold_new.ensures.order

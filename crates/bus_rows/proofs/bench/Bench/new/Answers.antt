@@ -1,7 +1,0 @@
-use Rattle.bus_rows.proofs.Keeping.{begun}
-use Rattle.bus_rows.proofs.bench.Bench.new.Goals as goal
-
-pub returns : goal.returns
-returns c =
-    begun c.in_ok-store.store c.in_ok-regions.regions c.args.blocks _ c.in_ok-store.ensures.empty c.in_ok-store.ensures.map c.in_ok-swap.ensures.blocks
-    c.in_ok-regions.ensures.nothing c.in_ok-regions.ensures.processes c.in_ok-regions.ensures.unheld

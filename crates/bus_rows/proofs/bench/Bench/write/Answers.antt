@@ -1,6 +1,0 @@
-use Rattle.std.proofs.Common.{sym}
-use Rattle.bus_rows.proofs.Keeping.{with_memory}
-use Rattle.bus_rows.proofs.bench.Bench.write.Goals as goal
-
-pub returns : goal.returns
-returns c = with_memory c.args.self.now.store c.put.new.self _ c.args.self.now.regions _ c.requires (c.put.ensures c.in-Some._at (sym c.in-Some.ensures))

@@ -1,5 +1,0 @@
-use Rattle.machine_parts.specs.Going.{IsGoing}
-use Rattle.machine_parts.proofs.turns.other_answer.Given as goal
-
-abbrev pub invariant-loop-turn : goal.invariant-loop-turn
-invariant-loop-turn g l = IsGoing l.machine (g.S.SwapDevice.blocks l.swap)
