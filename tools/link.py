@@ -2,8 +2,6 @@
 """Makes a segmented executable (NE) for OS/2 of object files in Intel's and Microsoft's object module format (OMF), as
 nasm -f obj writes them.
 
-usage: tools/link.py -o FILE [-m MODULE] [--stack BYTES] [--heap BYTES] OBJECT ..
-
 Segments of one name and class that are public are put behind one another, and the segments of a group make one segment of the
 executable. The group DGROUP is the automatic data segment; without one it is the only segment of data. Data outside of it is far
 data: segments of their own, which the program reaches by their selectors. A segment of the kind `stack` is no bytes of the file: its length is
@@ -16,12 +14,12 @@ Refused by name: 32-bit segments, libraries, common variables, near calls into a
 aren't in the list above.
 """
 import os
-import re
 import struct
 import sys
 
 sys.dont_write_bytecode = True
-sys.path.insert(0, os.path.dirname(os.path.realpath(__file__)))
+sys.path.insert(0, os.path.join(os.path.dirname(os.path.realpath(__file__)), "lib"))
+import command
 import ne
 from ne import Refused, must
 
@@ -429,49 +427,31 @@ class Linker:
         segment.bytes[place : place + width] = (value % (1 << 8 * width)).to_bytes(width, "little")
 
 
-def size(text, what):
-    must(re.fullmatch(r"[0-9]{1,5}", text) and int(text) <= 65535, f"{what} is a decimal number up to 65535, and not {text}")
-    return int(text)
-
-
-def main(words):
-    out = module = stack = None
-    heap, paths = 0, []
-    words = list(words)
-    while words:
-        word = words.pop(0)
-        if word in ("-o", "-m", "--stack", "--heap"):
-            must(words, f"{word} wants a word behind it")
-            value = words.pop(0)
-            if word == "-o":
-                out = value
-            elif word == "-m":
-                module = value
-            elif word == "--stack":
-                stack = size(value, "--stack")
-            else:
-                heap = size(value, "--heap")
-        else:
-            must(not word.startswith("-"), f"there is no flag {word}")
-            paths.append(word)
-    if not out or not paths:
-        sys.exit(__doc__)
-    module = module or os.path.splitext(os.path.basename(out))[0].upper()
-    must(module.isascii() and module.isprintable() and " " not in module, f"{module!r} is no name of a module: give one by -m")
-    objects = []
-    for path in paths:
-        try:
-            with open(path, "rb") as file:
-                objects.append(Object(path, file.read()))
-        except OSError as error:
-            raise Refused(f"{path}: {error.strerror}") from None
-        except Refused as why:
-            raise Refused(f"{path}: {why}") from None
-    ne.write(out, Linker(objects).link(module, stack, heap))
+def main():
+    words = command.parser("tools/link.py", __doc__)
+    words.add_argument("-o", required=True, dest="out", metavar="FILE", help="the executable that is written")
+    words.add_argument("-m", dest="module", metavar="MODULE", help="the module's name; FILE's in capitals where it isn't given")
+    words.add_argument("--stack", type=command.number(0, 65535), metavar="BYTES", help="the stack, in place of the segments of that kind")
+    words.add_argument("--heap", type=command.number(0, 65535), default=0, metavar="BYTES", help="the local heap, 0 where it isn't given")
+    words.add_argument("objects", nargs="+", metavar="OBJECT", help="object files")
+    given = words.parse_args()
+    module = given.module or os.path.splitext(os.path.basename(given.out))[0].upper()
+    try:
+        must(module.isascii() and module.isprintable() and " " not in module, f"{module!r} is no name of a module: give one by -m")
+        objects = []
+        for path in given.objects:
+            try:
+                with open(path, "rb") as file:
+                    objects.append(Object(path, file.read()))
+            except OSError as error:
+                raise Refused(f"{path}: {error.strerror}") from None
+            except Refused as why:
+                raise Refused(f"{path}: {why}") from None
+        ne.write(given.out, Linker(objects).link(module, given.stack, given.heap))
+    except Refused as why:
+        return f"link.py: {why}"
+    return 0
 
 
 if __name__ == "__main__":
-    try:
-        main(sys.argv[1:])
-    except Refused as why:
-        sys.exit(f"link.py: {why}")
+    command.end(main)

@@ -16,22 +16,28 @@ A listing is read line by line; what follows a `;` is a comment.
                                  far, selector, offset or byte, with `add-` before it where it is additive, to
                                  SEGMENT:OFFSET, SEGMENT, ENTRY (as in `entry.2`), MODULE.ORDINAL or MODULE.NAME
 
+A text that is an instruction, or a list of strings and numbers as `'hello', 10`, must be what its bytes are. Other text says what it likes.
+
 A listing of nasm (nasm -f bin -l LISTING) is read too. There the same lines stand in comments, `;@ module NAME` and so on, a segment's
 in front of its `section NAME vstart=0`; a relocation stands in a comment behind its line, `;@+N KIND TARGET`, where N counts from
 the first byte of the line.
 
 The file is laid out by the format: an MZ stub of 64 bytes, the NE header, the segment table, the resident names, the module
 references, the imported names, the entry table, and each segment with its records, at multiples of 16 bytes.
-
-usage: tools/ne.py LISTING FILE
 """
+import os
 import re
 import struct
 import sys
 
+sys.dont_write_bytecode = True
+sys.path.insert(0, os.path.join(os.path.dirname(os.path.realpath(__file__)), "lib"))
+import command
+import instructions
+
 SOURCES = {"byte": 0, "selector": 2, "far": 3, "offset": 5}
 WIDTHS = {0: 1, 2: 2, 3: 4, 5: 2}
-LINE = re.compile(r"([0-9A-F]{4})  ((?:[0-9A-F]{2} )*[0-9A-F]{2})(?:  .*?)?(?:@([0-9A-F]{4}) ([a-z-]+) (\S+))?$")
+LINE = re.compile(r"([0-9A-F]{4})  ((?:[0-9A-F]{2} )*[0-9A-F]{2})(?:  (.*?))?(?:@([0-9A-F]{4}) ([a-z-]+) (\S+))?$")
 NASM = re.compile(r" *\d+ (?:([0-9A-F]{8}) ((?:[^\s<]|<[a-z]+ [0-9A-F]+h?>)+) *|\s*)(?:<\d+>)?(.*)$")
 PLACE = re.compile(r"(\d{1,3}):([0-9A-Fa-f]{4})$")
 
@@ -297,9 +303,12 @@ class Listing(Module):
     def read_bytes(self, line):
         found = LINE.match(line)
         must(found, "no line of a listing")
-        self.add(int(found[1], 16), bytes.fromhex(found[2]))
-        if found[3]:
-            self.relocate(int(found[3], 16), found[4], found[5])
+        at, code = int(found[1], 16), bytes.fromhex(found[2])
+        self.add(at, code)
+        why = instructions.differs((found[3] or "").strip(), code, at, self.segments[-1].is_code, bool(found[4]))
+        must(not why, why)
+        if found[4]:
+            self.relocate(int(found[4], 16), found[5], found[6])
 
     def read_nasm(self, line):
         if "****" in line[:40]:
@@ -362,15 +371,18 @@ def write(path, content):
         sys.exit(f"{path}: {error.strerror}")
 
 
-def main(words):
-    if len(words) != 2:
-        sys.exit(__doc__)
+def main():
+    words = command.parser("tools/ne.py", __doc__)
+    words.add_argument("listing", metavar="LISTING", help="what is read")
+    words.add_argument("file", metavar="FILE", help="the executable that is written")
+    given = words.parse_args()
     try:
-        content = Listing(text_of(words[0])).file()
+        content = Listing(text_of(given.listing)).file()
     except Refused as why:
-        sys.exit(f"{words[0]}:{why.line}: {why}" if why.line else f"{words[0]}: {why}")
-    write(words[1], content)
+        return f"{given.listing}:{why.line}: {why}" if why.line else f"{given.listing}: {why}"
+    write(given.file, content)
+    return 0
 
 
 if __name__ == "__main__":
-    main(sys.argv[1:])
+    command.end(main)

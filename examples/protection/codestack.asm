@@ -1,0 +1,15 @@
+; codestack: a code segment in SS.
+
+;@ module CODESTACK
+;@ stack 512
+;@ start 1:0000
+cpu 286
+bits 16
+
+;@ segment 1 code
+section s1 vstart=0
+        mov ax, cs
+        mov ss, ax
+
+;@ segment 2 data auto size=16
+section s2 vstart=0

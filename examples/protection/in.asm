@@ -1,0 +1,14 @@
+; in: IN from a port.
+
+;@ module IN
+;@ stack 512
+;@ start 1:0000
+cpu 286
+bits 16
+
+;@ segment 1 code
+section s1 vstart=0
+        in al, 60h
+
+;@ segment 2 data auto size=16
+section s2 vstart=0

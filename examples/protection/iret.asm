@@ -1,0 +1,15 @@
+; iret: IRET finds one word on the stack, and wants three.
+
+;@ module IRET
+;@ stack 512
+;@ start 1:0000
+cpu 286
+bits 16
+
+;@ segment 1 code
+section s1 vstart=0
+        push 1234h
+        iret
+
+;@ segment 2 data auto size=16
+section s2 vstart=0

@@ -1,0 +1,20 @@
+; pointer: a null pointer given to a service.
+
+;@ module POINTER
+;@ stack 512
+;@ start 1:0000
+cpu 286
+bits 16
+
+;@ segment 1 code
+section s1 vstart=0
+        push 1                          ; the standard output
+        push 0                          ; the text's selector: null
+        push 0
+        push 5                          ; its length
+        push ds
+        push 6
+        call 0:0FFFFh                   ;@+1 far DOSCALLS.138 DosWrite
+
+;@ segment 2 data auto size=16
+section s2 vstart=0

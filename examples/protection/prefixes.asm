@@ -1,0 +1,14 @@
+; prefixes: an instruction of more than 10 bytes.
+
+;@ module PREFIXES
+;@ stack 512
+;@ start 1:0000
+cpu 286
+bits 16
+
+;@ segment 1 code
+section s1 vstart=0
+        db '&&&&&&&&&&', 90h            ; ten prefixes es: and nop
+
+;@ segment 2 data auto size=16
+section s2 vstart=0

@@ -1,0 +1,14 @@
+; sgdt: SGDT, which tells of the system's tables: not here.
+
+;@ module SGDT
+;@ stack 512
+;@ start 1:0000
+cpu 286
+bits 16
+
+;@ segment 1 code
+section s1 vstart=0
+        sgdt [0]
+
+;@ segment 2 data auto size=16
+section s2 vstart=0

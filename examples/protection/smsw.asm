@@ -1,0 +1,14 @@
+; smsw: SMSW, which tells of the system's tables: not here.
+
+;@ module SMSW
+;@ stack 512
+;@ start 1:0000
+cpu 286
+bits 16
+
+;@ segment 1 code
+section s1 vstart=0
+        smsw ax
+
+;@ segment 2 data auto size=16
+section s2 vstart=0

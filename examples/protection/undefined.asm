@@ -1,0 +1,14 @@
+; undefined: an opcode that isn't defined.
+
+;@ module UNDEFINED
+;@ stack 512
+;@ start 1:0000
+cpu 286
+bits 16
+
+;@ segment 1 code
+section s1 vstart=0
+        db 0D6h                         ; no instruction
+
+;@ segment 2 data auto size=16
+section s2 vstart=0
