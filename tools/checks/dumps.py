@@ -158,7 +158,7 @@ def as_shown(title, core, file):
     kept_as("a.core", file)
     wants(f"{title}: os2core show", core_said("show", "a.core") == (0, text_of(core_shown.show_lines(core)), ""), core_said("show", "a.core"))
     drawn = core_said("svg", "a.core")
-    wants(f"{title}: os2core svg", (drawn[0], core_shown.picture_shown(drawn[1]), drawn[2]) == (0, list(core_shown.picture_parts(core)), ""), drawn[1][:300])
+    wants(f"{title}: os2core svg", (drawn[0], core_shown.picture_shown(drawn[1]), drawn[2]) == (0, core_shown.picture(core), ""), drawn[1][:300])
     for number in range(len(core.segments)):
         said = core_said("segment", "a.core", str(number))
         wants(f"{title}: os2core segment {number}", said == (0, text_of(core_shown.segment_lines(core, number)), ""), "other bytes, or another line")

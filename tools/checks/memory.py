@@ -11,7 +11,7 @@
                bytes less, which must write a front of that.
     rows       the same of the programs of the table of commands that a proved program takes (tools/lib/row_programs.py), with what the table says of them.
     full       64 processes that all hold a run of all 4,096 shared selectors.
-    swap       the swap file: when there is one, and what is said where it can't be used.
+    swap       the swap file: when there is one, what is said where it can't be used, and where somebody else changes it while the run waits.
 
 OS2RUN in the environment names another program to try; SEED another beginning.
 """
@@ -20,8 +20,10 @@ import os
 import random
 import re
 import shutil
+import signal
 import subprocess
 import sys
+import time
 
 sys.dont_write_bytecode = True
 sys.path.insert(0, os.path.join(os.path.dirname(os.path.realpath(__file__)), "..", "lib"))
@@ -459,6 +461,26 @@ segment 2 data auto size=16
 segment 3 data size=16384
 segment 4 data size=16384
 """
+# three data segments of which the memory holds one: each is filled, then a byte of the input is awaited, and two are written
+WAITS = """module WAITS
+stack 512
+start 1:0000
+segment 1 code
+0000  FC
+0001  B8 1F 00 8E C0 31 FF B9 00 20 B8 41 41 F3 AB 31 C0 8E C0
+0014  B8 27 00 8E C0 31 FF B9 00 20 B8 42 42 F3 AB 31 C0 8E C0
+0027  B8 2F 00 8E C0 31 FF B9 00 20 B8 43 43 F3 AB 31 C0 8E C0
+003A  6A 00 1E 68 00 00 6A 01 1E 68 02 00 9A FF FF 00 00  @0047 far DOSCALLS.137
+004B  B8 1F 00 8E C0 6A 01 06 6A 00 68 00 40 1E 68 02 00 9A FF FF 00 00  @005D far DOSCALLS.138
+0061  31 C0 8E C0
+0065  B8 27 00 8E C0 6A 01 06 6A 00 68 00 40 1E 68 02 00 9A FF FF 00 00  @0077 far DOSCALLS.138
+007B  31 C0 8E C0
+007F  6A 01 6A 00 9A FF FF 00 00  @0084 far DOSCALLS.5
+segment 2 data auto size=16
+segment 3 data size=16384
+segment 4 data size=16384
+segment 5 data size=16384
+"""
 OPENED = "1 start TWO\n" + "".join(f"1 hold {selector} by load\n" for selector in ("000F", "0017", "001F", "0027", "002F"))
 DONE = OPENED + "1 call DosExit 0001 0007\n1 end exit 7\nall ended\n"
 
@@ -491,7 +513,78 @@ def swap_file():
     wants("a swap file that is there", two(20480, 64) == (0, b"", DONE), "other texts")
     wants("a swap file that was there", b"\xff" not in content("os2run.swp"), "the bytes of another run")
     wants("no blocks", two(20480, 0) == (9, b"", OPENED + tail(9)), two(20480, 0))
+    changed_underneath()
+    limited()
     wants("no room", two(17408, 64) == (0, b"", DONE) and two(16912, 64) == (8, b"", OPENED + tail(8)), two(16912, 64))
+
+
+def cut(name):
+    os.truncate(name, 0)
+
+
+def overwritten(name):
+    size = os.path.getsize(name)
+    with open(name, "r+b") as file:
+        file.write(b"\xff" * size)
+
+
+def one_byte(name):
+    """The first byte of the second block is another one."""
+    with open(name, "r+b") as file:
+        file.seek(512)
+        file.write(b"\x40")
+
+
+def replaced(name):
+    with open("other.swp", "wb") as file:
+        file.write(b"\xff" * os.path.getsize(name))
+    os.replace("other.swp", name)
+
+
+def awaits_input(child):
+    """Whether the program has come to sleep, and swapped before."""
+    for _ in range(2000):
+        time.sleep(0.01)
+        with open(f"/proc/{child.pid}/stat") as file:
+            sleeps = file.read().rpartition(")")[2].split()[0] == "S"
+        if sleeps and os.path.exists("os2run.swp") and os.path.getsize("os2run.swp") > 0:
+            return True
+    return False
+
+
+def while_it_waits(change):
+    """Status, console and report of a run whose swap file somebody changes while it waits for a byte of its input."""
+    child = subprocess.Popen([program(), "run", "waits.toml"], stdin=subprocess.PIPE, stdout=subprocess.PIPE, stderr=subprocess.PIPE)
+    wants("a run that waits", awaits_input(child), "it doesn't wait, or it doesn't swap")
+    if change:
+        change("os2run.swp")
+    console, report = child.communicate(b"x")
+    return child.returncode, console, report.decode("latin-1")
+
+
+def changed_underneath():
+    """A block that comes back otherwise is a fault. A file that is replaced or removed is still the one that the run has open."""
+    with open("waits.exe", "wb") as file:
+        file.write(ne.Listing(WAITS).file())
+    with open("waits.toml", "w") as file:
+        file.write("memory = 20480\n" + EXE + 'modules = ["waits.exe"]\n[[process]]\nmodule = "WAITS"\n')
+    wanted = while_it_waits(None)
+    wants("a run that waits and swaps", wanted[:2] == (0, b"A" * 16384 + b"B" * 16384), wanted[::2])
+    for change in (cut, overwritten, one_byte):
+        status, console, report = while_it_waits(change)
+        told = tail(10)
+        well = status == 10 and console == b"" and report.endswith(told) and wanted[2].startswith(report[: -len(told)])
+        wants(f"a swap file that is {change.__name__}", well, (status, console[:16], report[-80:]))
+    for change in (replaced, os.remove):
+        wants(f"a swap file that is {change.__name__}", while_it_waits(change) == wanted, "other texts")
+
+
+def limited():
+    """Past a limit on the size of files the system ends the program, unless the signal is ignored: then it is a fault of the swap file."""
+    text = "ulimit -f 8; "
+    shell = lambda front: subprocess.run(["/bin/bash", "-c", f"{front}{text}exec \"$0\" run waits.toml", program()], input=b"x", capture_output=True)
+    wants("a limit on files", shell("").returncode == -signal.SIGXFSZ, shell("").returncode)
+    wants("a limit on files, with the signal ignored", shell("trap '' XFSZ; ").returncode == 10, shell("trap '' XFSZ; ").returncode)
 
 
 def full_run():

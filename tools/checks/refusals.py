@@ -6,6 +6,7 @@ with what ends a process by it.
 OS2RUN in the environment names another program to try.
 """
 import os
+import shutil
 import subprocess
 import sys
 
@@ -127,6 +128,14 @@ def words_and_files():
     wants("a folder is no file", ["exe", "below"], 5, "os2run: file fault")
     wants("a file is no folder", ["exe", "hello.exe/a.exe"], 5, "os2run: file fault")
     wants("a name of 300 letters", ["exe", "x" * 300], 5, "os2run: file fault")
+    # (root may read each file, so it takes another user's place)
+    shutil.copyfile("hello.exe", "closed.exe")
+    os.chmod(".", 0o755)
+    others = {"user": 65534, "group": 65534, "extra_groups": []} if os.geteuid() == 0 else {}
+    os.chmod("closed.exe", 0o644)
+    wants("a file that may be read", ["exe", "closed.exe"], 0, "", **others)
+    os.chmod("closed.exe", 0)
+    wants("a file that may not be read", ["exe", "closed.exe"], 5, "os2run: file fault", **others)
     os.mkfifo("pipe")
     writer = subprocess.Popen(["sh", "-c", "echo no executable >pipe"])
     wants("a pipe is read to its end", ["exe", "pipe"], 4, "os2run: module pipe: reason 1")

@@ -1,11 +1,13 @@
 #!/usr/bin/env python3
 """Tries the program over streams that are slow, short or failing: an input and an output pipe of one byte at a time, reads and writes
 that the system cuts to one byte, and an error at each of the first reads and writes. It compares console, report and status with those
-of a plain run, of which a failing run has fronts. (Closed streams and /dev/full are in tools/checks/refusals.py.)
+of a plain run, of which a failing run has fronts. A program that talks with somebody gets each byte as it comes. (Closed streams and
+/dev/full are in tools/checks/refusals.py.)
 
 OS2RUN in the environment names another program to try.
 """
 import os
+import select
 import shutil
 import subprocess
 import sys
@@ -15,9 +17,22 @@ sys.dont_write_bytecode = True
 sys.path.insert(0, os.path.join(os.path.dirname(os.path.realpath(__file__)), "..", "lib"))
 import trying
 from trying import EXAMPLES, program, wants
+import ne
 
 ECHO = os.path.join(EXAMPLES, "echo.exe")
 INPUT = b"Some input.\n"
+# reads a byte and writes it, to the end of the input
+TALKS = """module TALKS
+stack 512
+start 1:0000
+segment 1 code
+0000  6A 00 1E 68 00 00 6A 01 1E 68 02 00 9A FF FF 00 00  @000D far DOSCALLS.137
+0011  83 3E 02 00 00 74 13
+0018  6A 01 1E 68 00 00 6A 01 1E 68 04 00 9A FF FF 00 00  @0025 far DOSCALLS.138
+0029  EB D5
+002B  6A 01 6A 00 9A FF FF 00 00  @0030 far DOSCALLS.5
+segment 2 data auto size=16
+"""
 # read and write of the C library, cut to one byte for the standard streams; the call of a number, from 1, fails
 SHORT = """
 #define _GNU_SOURCE
@@ -74,6 +89,22 @@ def slowly():
     for taker in takers:
         taker.join()
     return child.wait(), got[1], got[2]
+
+
+def answered():
+    """A read of one byte is answered before more input comes: each byte is put before the next one is sent."""
+    with open("talks.exe", "wb") as file:
+        file.write(ne.Listing(TALKS).file())
+    child = subprocess.Popen([program(), "exe", "talks.exe"], stdin=subprocess.PIPE, stdout=subprocess.PIPE, stderr=subprocess.DEVNULL, bufsize=0)
+    got = b""
+    for byte in b"os2":
+        child.stdin.write(bytes([byte]))
+        if not select.select([child.stdout], [], [], 20)[0]:
+            break
+        got += os.read(child.stdout.fileno(), 16)
+    wants("bytes that are answered one by one", got == b"os2", got)
+    child.stdin.close()
+    wants("the end of the input", (child.stdout.read(), child.wait()) == (b"", 0), child.returncode)
 
 
 def short(folder):
@@ -142,6 +173,7 @@ def whole():
     plain = run()
     wants("a plain run", plain[:2] == (0, INPUT.upper()), plain)
     wants("pipes of one byte at a time", slowly() == plain, slowly())
+    answered()
     if not trying.compiler():
         print("streams: there is no C compiler, so cut and failing calls aren't tried")
         return

@@ -146,15 +146,24 @@ def check_difference():
 
 
 def check_picture():
-    """Each segment in memory and each block in use has its rectangles with its number, which stands in it where it is wide enough; and each row
-    its address."""
+    """Each segment in memory and each block in use has its rectangles, in the colour of its first holder; its name and its size stand in them
+    where they are wide enough, and both in the legend. Each row has its address."""
     trying.count()
     status, text = said("os2core", "svg", "small.core")
     written = re.findall(r"<text [^>]*>([^<]*)</text>", text)
-    wanted = [f"{64 * row:06X}h" for row in range(16)] + ["1", "3", "3", "3", "3", "blocks", "2", "2"]
+    title = "Memory of 1024 bytes and 4 swap blocks after 1000 steps"
+    wide = ["1:001F 20 bytes", *["1:002F 256 bytes"] * 4]
+    keys = ["1:0017, segment 0, 25 bytes", "1:001F, segment 1, 20 bytes", "1:0027, segment 2, 600 bytes", "1:002F, segment 3, 256 bytes", "2:001F, segment 4, 4096 bytes"]
+    wanted = [title, *(f"{64 * row:06X}h" for row in range(16)), *wide, "blocks", *["1:0027 600 bytes"] * 2, *keys, "light grey: free; dark grey: held by no process"]
     if written != wanted:
         wrong(f"os2core svg: {written}; wanted {wanted}")
-    parts = [(0, 24, 480, "segment 1, 000040h"), *((0, 24 * (4 + k), 960, f"segment 3, {256 + 64 * k:06X}h") for k in range(4)),
-             (0, 408, 240, "segment 2, block 0"), (480, 408, 240, "segment 2, block 2")]
-    if status or core_shown.picture_shown(text) != parts or list(core_shown.picture_parts(core_image.Read(core_image.small()))) != parts:
-        wrong(f"os2core svg: status {status}, {core_shown.picture_shown(text)}; wanted {parts}")
+    fills = {"1:0017": "hsl(320,65%,72%)", "1:001F": "hsl(117,65%,72%)", "1:0027": "hsl(275,65%,72%)", "1:002F": "hsl(72,65%,72%)", "2:001F": "hsl(122,65%,62%)"}
+    parts = [(0, 24, 480, fills["1:001F"], keys[1] + ", 000040h"),
+             *((0, 24 * (4 + k), 960, fills["1:002F"], f"{keys[3]}, {256 + 64 * k:06X}h") for k in range(4)),
+             (0, 408, 240, fills["1:0027"], keys[2] + ", block 0"), (480, 408, 240, fills["1:0027"], keys[2] + ", block 2")]
+    whole = (title, parts, [(fills[key.partition(",")[0]], key) for key in keys])
+    if status or core_shown.picture_shown(text) != whole or core_shown.picture(core_image.Read(core_image.small())) != whole:
+        wrong(f"os2core svg: status {status}, {core_shown.picture_shown(text)}; wanted {whole}")
+    trying.count()
+    if len({core_shown.colour((process, index)) for process in range(1, 5) for index in range(1, 17)}) != 64:
+        wrong("the colours of sixteen indexes of four processes aren't 64")

@@ -6,7 +6,7 @@ import subprocess
 
 import trying
 from trying import EXAMPLES, program, wrong
-from try_vectors import NAMES, built, undefined
+from try_vectors import NAMES, built, unlike
 
 STEP = re.compile(r"1 ([0-9A-F]{4}):([0-9A-F]{4}) ([0-9A-F]*) +(.*?)((?: (?:[ABCD]X|[SD]I|[BS]P|[CDES]S|IP|F)=[0-9A-F]{4})*)$")
 PREFIXES = (0x26, 0x2E, 0x36, 0x3E, 0xF2, 0xF3)
@@ -114,7 +114,7 @@ class Processor:
 
 
 def row_of(code):
-    """The opcode, with the digit behind it in a group, as `undefined` names it."""
+    """The opcode, with the digit behind it in a group, as `unlike` names it."""
     while code[0] in PREFIXES:
         code = code[1:]
     return f"{code[0]:02X}.{code[1] >> 3 & 7}" if code[0] in GROUPS else f"{code[0]:02X}"
@@ -204,7 +204,7 @@ def replay(name, file, trace, source):
         elif is_alike(code):
             compared += 1
             got = step_as(processor, code, regs, segments)
-            flags = (got["flags"] ^ wanted["flags"]) & ARITHMETIC & ~undefined(row_of(code))
+            flags = (got["flags"] ^ wanted["flags"]) & ARITHMETIC & ~unlike(row_of(code))
             if flags or any(got[key] != wanted[key] for key in NAMES if key != "flags"):
                 wrong(f"{name}: {line!r}, where libx86emu has {({key: f'{value:04X}' for key, value in got.items()})}")
                 break

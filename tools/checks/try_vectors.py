@@ -6,6 +6,7 @@ import subprocess
 
 import ne
 import trying
+import vectors
 from trying import LIB, check_words, program, said, wrong
 
 # What real and protected mode do alike: nothing that loads a segment register, no repetition, nothing that only one mode has.
@@ -16,25 +17,12 @@ ALIKE = [f"{op:02X}" for op in (
 GROUPS = {**{op: "01234567" for op in ("80", "81", "83")}, **{op: "0123457" for op in ("C0", "C1", "D0", "D1", "D2", "D3")},
           **{op: "0234567" for op in ("F6", "F7")}, "8F": "0", "FE": "01", "FF": "01246"}
 ALIKE += [f"{op}.{reg}" for op, regs in GROUPS.items() for reg in regs] + ["268B", "2E8A", "3601", "3E88"]
-CARRY, PARITY, ADJUST, ZERO, SIGN, OVERFLOW = 0x001, 0x004, 0x010, 0x040, 0x080, 0x800
 NAMES = ("ax", "bx", "cx", "dx", "cs", "ss", "ds", "es", "sp", "bp", "si", "di", "ip", "flags")
 
 
-def undefined(opcode):
-    """The flags that the manual leaves undefined behind an instruction."""
-    op, _, reg = opcode.partition(".")
-    number = int(op[:2], 16)
-    if op in ("F6", "F7"):
-        return {"4": SIGN | ZERO | ADJUST | PARITY, "5": SIGN | ZERO | ADJUST | PARITY, "6": 0x8D5, "7": 0x8D5, "0": ADJUST, "1": ADJUST}.get(reg, 0)
-    if op in ("69", "6B"):
-        return SIGN | ZERO | ADJUST | PARITY
-    if op in ("C0", "C1", "D0", "D1", "D2", "D3"):
-        # libx86emu leaves the overflow flag of SAR by 1 as it was, where the manual has it cleared
-        return (OVERFLOW if op not in ("D0", "D1") or reg == "7" else 0) | (ADJUST if reg in "4567" else 0)
-    if op in ("80", "81", "83") and reg in "146" or number < 0x40 and number & 0x38 in (8, 0x20, 0x30) or op in ("84", "85", "A8", "A9"):
-        return ADJUST
-    # behind AAM libx86emu takes the sign and the zero flag from AX, where the manual has AL
-    return {"27": OVERFLOW, "2F": OVERFLOW, "37": 0x8C4, "3F": 0x8C4, "D4": OVERFLOW | ADJUST | CARRY | SIGN | ZERO, "D5": OVERFLOW | ADJUST | CARRY}.get(op, 0)
+# Defined flags that libx86emu has otherwise than the manual: those of AAM, which it takes from AX in place of AL, and the overflow flag of SAR
+# by 1, which it leaves as it was.
+OTHERWISE = {"D4": 0x0C0, "D0.7": 0x800, "D1.7": 0x800}
 
 
 def built():
@@ -64,14 +52,19 @@ def is_alike(opcode, vector):
     return not shifts or by < places
 
 
+def unlike(opcode):
+    """The flags that aren't compared after an opcode: those that the manual leaves undefined, and those that libx86emu has otherwise."""
+    row = next((name for name in (opcode, opcode[2:], opcode + ".0") if name in vectors.FLAGS), None)
+    return (vectors.undefined(row) if row else 0) | OTHERWISE.get(opcode, 0)
+
+
 def compare(opcode, vector, line):
     """Registers, defined flags and bytes behind the step."""
     trying.count()
     got = [int(word) for word in line.split()]
     wanted = [vector["final"]["regs"][name] for name in NAMES]
     ram = {**dict(map(tuple, vector["initial"]["ram"])), **dict(map(tuple, vector["final"]["ram"]))}
-    mask = undefined(opcode)
-    flags = (got[13] ^ wanted[13]) & 0x0CD5 & ~mask
+    flags = (got[13] ^ wanted[13]) & 0x0CD5 & ~unlike(opcode)
     bytes_ = [ram[cell[0]] for cell in vector["initial"]["ram"]]
     if got[:13] != wanted[:13] or flags or got[14:] != bytes_:
         differ = {name: (g, w) for name, g, w in zip(NAMES, got, wanted) if g != w}
@@ -142,6 +135,49 @@ def forms_of_answers():
             wrong(f"os2vectors 00 {count}: status {status}, {text!r}")
 
 
+def check_list():
+    """The opcodes that tools/vectors.py lists are those of the machine: each is an instruction with some ModRM byte, and no other first bytes
+    are, but for prefixes and 0F."""
+    heads = [f"{first:02X}" for first in range(256) if first not in (0x26, 0x2E, 0x36, 0x3E, 0xF0, 0xF2, 0xF3, 0x0F)]
+    groups = {row.partition(".")[0] for row in vectors.FLAGS if "." in row}
+    for head in [*heads, *(f"0F{second:02X}" for second in range(16))]:
+        for row in [f"{head}.{reg}" for reg in range(8)] if head in groups else [head]:
+            trying.count()
+            named = {vector["name"] == "no instruction" for vector in json.loads(said("os2vectors", row, "4", "2")[1])}
+            if (row in vectors.FLAGS) != (False in named):
+                wrong(f"tools/vectors.py, {row}: {'listed' if row in vectors.FLAGS else 'not listed'}, and the machine has it otherwise")
+
+
+def check_suite():
+    """The suite of two opcodes: its files are what os2vectors writes, and its masks have the flags that the manual leaves undefined."""
+    trying.count()
+    tool = [os.path.join(trying.TOOLS, "vectors.py")]
+    run = subprocess.run([*tool, "suite", "suite", "f7.4", "00", "--count", "3", "--seed", "5"], capture_output=True, text=True)
+    rows = {"00": {"status": "normal"}, "F7": {"reg": {"4": {"status": "normal", "flags": "...szap.", "flags-mask": 0xFF2B}}}}
+    if run.returncode or sorted(os.listdir("suite")) != ["00.json", "F7.4.json", "metadata.json"]:
+        wrong(f"tools/vectors.py suite: {run}")
+        return
+    with open("suite/metadata.json") as file:
+        told = json.load(file)
+    if told != {"cpu": "80286", "mode": "protected", "opcodes": rows, "count": 3, "seed": 5}:
+        wrong(f"tools/vectors.py suite: {told}")
+    for opcode in ("00", "F7.4"):
+        with open(f"suite/{opcode}.json") as file:
+            trying.count()
+            if file.read() != said("os2vectors", opcode, "3", "5")[1]:
+                wrong(f"tools/vectors.py suite: {opcode}.json isn't what os2vectors writes")
+    for words, status in ((["suite", "suite"], 1), (["suite", "other", "F1"], 2), (["all"], 2), ([], 2)):
+        trying.count()
+        run = subprocess.run([*tool, *words], capture_output=True, text=True)
+        if run.returncode != status or run.stdout or not run.stderr or "Traceback" in run.stderr:
+            wrong(f"tools/vectors.py {words}: {run}")
+    for kind, first in (("opcodes", "00"), ("metadata", "{")):
+        trying.count()
+        run = subprocess.run([*tool, kind], capture_output=True, text=True)
+        if run.returncode or run.stdout.splitlines()[0] != first or kind == "opcodes" and len(run.stdout.splitlines()) != len(vectors.FLAGS):
+            wrong(f"tools/vectors.py {kind}: {run}")
+
+
 def check_vectors():
     check_words("os2vectors", ["G7", "1", "1"])
     same = [said("os2vectors", "F7.4", "3", seed) for seed in ("1", "1", "2")]
@@ -149,28 +185,30 @@ def check_vectors():
         wrong("os2vectors: the same words give other vectors, or other words the same")
     small = []
     for opcode in ("00", "8a", "F7.4", "F3A4", "0F02", "0F06", "D8", "F0", "F4", "9A", "26" * 10):
-        vectors = json.loads(said("os2vectors", opcode, "50", "3")[1])
-        for vector in vectors:
+        made = json.loads(said("os2vectors", opcode, "50", "3")[1])
+        for vector in made:
             is_formed(opcode, vector)
             small += [vector["initial"]["regs"][name] < 32 for name in ("ax", "bx", "cx", "dx", "sp", "bp", "si", "di")]
-        for vector in [vector for vector in vectors if vector["bytes"]][:3]:
+        for vector in [vector for vector in made if vector["bytes"]][:3]:
             check_names(opcode, vector)
     if 2 * sum(small) < len(small):
         wrong(f"os2vectors: {sum(small)} of {len(small)} registers are small")
     forms_of_answers()
+    check_list()
+    check_suite()
     if not built():
         print("vectors: libx86emu or a C compiler isn't installed (apt-get install gcc libx86emu-dev), so no step is compared with it")
         return
     steps, done = 0, set()
     for opcode in ALIKE:
         _, text = said("os2vectors", opcode, "100", "7")
-        vectors = [vector for vector in json.loads(text) if is_alike(opcode, vector)]
-        source = "".join(" ".join(map(str, numbers(vector))) + "\n" for vector in vectors)
+        alike = [vector for vector in json.loads(text) if is_alike(opcode, vector)]
+        source = "".join(" ".join(map(str, numbers(vector))) + "\n" for vector in alike)
         run = subprocess.run(["./steps"], input=source, capture_output=True, text=True)
         lines = run.stdout.splitlines()
-        if run.returncode or len(lines) != len(vectors):
-            wrong(f"{opcode}: libx86emu took {len(lines)} of {len(vectors)} steps")
-        for vector, line in zip(vectors, lines):
+        if run.returncode or len(lines) != len(alike):
+            wrong(f"{opcode}: libx86emu took {len(lines)} of {len(alike)} steps")
+        for vector, line in zip(alike, lines):
             steps += compare(opcode, vector, line)
             done.add(opcode)
     missing = sorted(set(ALIKE) - done)

@@ -92,30 +92,76 @@ def segment_lines(core, number):
         yield f"  {at:04X}  {line.hex().upper()}  {''.join(chr(byte) if 32 <= byte < 127 else '.' for byte in line)}"
 
 
+def first_holder(core, number):
+    """The first process that holds a segment, and the first index at which it does, or None."""
+    held = [(pid, index) for pid, (*_, entries) in core.processes.items() for index, entry in entries.items() if entry[3] == number]
+    return min(held, default=None)
+
+
+def colour(holder):
+    """A colour of 64 for a holder, whatever image it stands in: sixteen indexes go around the wheel, and processes are darker one by one."""
+    if holder is None:
+        return "#999999"
+    tone, place = divmod((16 * holder[0] + holder[1]) % 64, 16)
+    return f"hsl({place * 7 % 16 * 45 // 2 + 5 * tone},65%,{82 - 10 * tone}%)"
+
+
+def drawn(core, number):
+    """The colour of a segment in a picture, and its words."""
+    holder = first_holder(core, number)
+    name = "no process" if holder is None else f"{holder[0]}:{8 * holder[1] + 7:04X}"
+    return colour(holder), f"{name}, segment {number}, {core.segments[number].size} bytes"
+
+
 def picture_parts(core):
-    """Left, top, width and title of each part of the picture, 960 points wide: the memory in sixteen rows, 24 points apart, and the blocks in one more."""
+    """Left, top, width, colour and title of each part of the picture, 960 points wide: the memory in sixteen rows, 24 points apart, and the blocks
+    in one more."""
     row = -(-core.size // 16)
     for number, entry in sorted(enumerate(core.segments), key=lambda it: it[1].place[1] if it[1].place and it[1].place[0] == "memory" else 0):
         if entry.place and entry.place[0] == "memory":
+            fill, words = drawn(core, number)
             at, end = entry.place[1], entry.place[1] + -(-entry.size // 16) * 16
             while at < end:
                 line = at // row
                 to = min((line + 1) * row, end)
                 left, right = ((place - line * row) * 960 // row for place in (at, to))
-                yield left, 24 * line, max(right - left, 1), f"segment {number}, {at:06X}h"
+                yield left, 24 * line, max(right - left, 1), fill, f"{words}, {at:06X}h"
                 at = to
     for block, number, _ in uses(core):
+        fill, words = drawn(core, number)
         left, right = (place * 960 // core.blocks for place in (block, block + 1))
-        yield left, 408, max(right - left, 1), f"segment {number}, block {block}"
+        yield left, 408, max(right - left, 1), fill, f"{words}, block {block}"
+
+
+def legend(core):
+    """Colour and words of each segment that is held, by its first holder."""
+    numbers = [number for number in range(len(core.segments)) if first_holder(core, number)]
+    return [drawn(core, number) for number in sorted(numbers, key=lambda number: first_holder(core, number))]
+
+
+def picture_title(core):
+    return f"Memory of {core.size} bytes and {core.blocks} swap blocks after {core.steps} steps"
 
 
 def picture_shown(text):
-    """The same of a picture that was drawn, whose first rectangle is as large as all of it; or None."""
-    box, ground = re.search(r'viewBox="(-\d+) 0 (\d+) (\d+)"', text), re.search(r'<rect x="(-\d+)" width="(\d+)" height="(\d+)" fill="#ffffff"/>', text)
-    if not box or not ground or box.groups() != ground.groups():
+    """The title, the parts and the legend of a picture that was drawn, whose ground is as large as all of it; or None."""
+    box = re.search(r'width="(\d+)" height="(\d+)" viewBox="(-\d+) (-\d+) (\d+) (\d+)"', text)
+    ground = re.search(r'<rect x="(-\d+)" y="(-\d+)" width="(\d+)" height="(\d+)" fill="#ffffff"/>', text)
+    titles = re.search(r"^<title>([^<]*)</title>$(?s:.*?)^<text [^>]*>\1</text>$", text, re.M)
+    if not box or not ground or not titles or box.groups()[2:] != ground.groups() or box.groups()[:2] != ground.groups()[2:]:
         return None
-    found = re.findall(r'<rect x="(\d+)" y="(\d+)" width="(\d+)" [^>]*><title>([^<]*)</title></rect>', text)
-    return [(int(left), int(top), int(width), title) for left, top, width, title in found]
+    found = re.findall(r'<rect x="(\d+)" y="(\d+)" width="(\d+)" height="\d+" fill="([^"]*)"><title>([^<]*)</title></rect>', text)
+    keys = re.findall(r'<rect x="(\d+)" y="(\d+)" width="16" height="16" fill="([^"]*)"/>\n<text x="(\d+)" y="(\d+)">([^<]*)</text>', text)
+    bottom = int(ground[4]) + int(ground[2])
+    for place, (left, top, _, words, line, _) in enumerate(keys):
+        if (int(left), int(top)) != (240 * (place % 4), 456 + 24 * (place // 4)) or int(words) != int(left) + 22 or int(line) != int(top) + 12 or int(line) + 4 > bottom:
+            return None
+    return titles[1], [(int(left), int(top), int(width), fill, title) for left, top, width, fill, title in found], [(key[2], key[5]) for key in keys]
+
+
+def picture(core):
+    """The same as it has to be."""
+    return picture_title(core), list(picture_parts(core)), legend(core)
 
 
 def told(core):

@@ -5,3 +5,4 @@ pub mod Readers
 pub mod Inputs
 pub mod Walks
 pub mod Windows
+pub mod Filled

@@ -13,3 +13,5 @@ pub mod Fetches
 pub mod Accesses
 pub mod Windows
 pub mod Ahead
+pub mod Placed
+pub mod Sums

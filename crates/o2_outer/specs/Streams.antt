@@ -69,6 +69,10 @@ swap_history s = s.noted.history.items
 abbrev pub swap_faults : {R F D : Type 0} → FileSwap R F D → ℕ
 swap_faults s = s.faults
 
+-- its file, once it is open
+abbrev pub swap_file : {R F D : Type 0} → FileSwap R F D → Option F
+swap_file s = s.file
+
 -- the blocks of its file that it has in memory
 abbrev pub swap_window : {R F D : Type 0} → FileSwap R F D → Window
 swap_window s = s.window

@@ -3,13 +3,13 @@ ghost use Rattle.std.specs.Prelude.{◌≡◌, ◌≤◌, ◌<◌, [], List, ℕ
 ghost use Rattle.o2_outer.specs.Texts.{Rose, risen};
 ghost use Rattle.o2_outer.specs.Streams.{swap_history, swap_faults};
 ghost use Rattle.o2_outer.specs.Ahead.{has_block, IsAsBefore};
+ghost use Rattle.o2_outer.specs.Placed.{Flushes, Fills, IsGiven};
 
 use crate::noted::Noted;
-use crate::streams::write_whole;
+use crate::placed::{seek_to, write_at};
 use crate::window::Window;
-use crate::{Dev, Put, SwapDevice};
+use crate::{Dev, SwapDevice};
 use std::fs::OpenOptions;
-use std::io::{Seek, SeekFrom};
 use std::rt;
 
 /// The file, in the folder that the program runs in.
@@ -17,9 +17,6 @@ const NAME: &str = "os2run.swp";
 
 /// How many blocks there are, which is 32 MiB.
 const BLOCKS: u32 = 65_536;
-
-/// How many bytes a block has.
-const BLOCK: u64 = 512;
 
 /// Blocks in the file `os2run.swp`, which is made, empty, at the first use. A block holds what was written last, and it tells whether
 /// each read gave that. Each error of the system is a fault, and so is a read of a block that wasn't written or whose last write failed,
@@ -31,8 +28,6 @@ const BLOCK: u64 = 512;
 pub struct FileSwap<R: rt::Files + Drop> {
     system: R,
     file: Option<R::File>,
-    // the block before which the open file stands, where that is known
-    stands: Option<u32>,
     window: Window,
     noted: Noted,
     faults: u64,
@@ -47,7 +42,6 @@ impl<R: rt::Files + Drop> FileSwap<R> {
         FileSwap {
             system,
             file: None,
-            stands: None,
             window: Window::new(),
             noted: Noted::new(),
             faults: 0,
@@ -86,41 +80,25 @@ impl<R: rt::Files + Drop> FileSwap<R> {
         Dev::Failed
     }
 
-    /// Has the open file stand before a block, and tells whether it does.
-    fn find(&mut self, i: u32) -> bool
-        ensures faults { self.new.faults ≡ self.old.faults }
-        ensures noted { self.new.noted ≡ self.old.noted }
-        ensures window { self.new.window ≡ self.old.window }
-    {
-        if self.stands == Some(i) {
-            return true;
-        }
-        let Some(file) = &mut self.file else {
-            return false;
-        };
-        file.seek(SeekFrom::Start(i as u64 * BLOCK)).is_ok()
-    }
-
     /// Writes the blocks that wait to the open file, and tells whether it took them whole. They wait on where it didn't.
     fn flush(&mut self) -> bool
         ensures faults { self.new.faults ≡ self.old.faults }
         ensures noted { self.new.noted ≡ self.old.noted }
         ensures window { IsAsBefore self.old.window self.new.window }
         ensures done { result ≡ true → self.new.window.waits ≡ false }
+        ensures waits { result ≡ false → self.new.window ≡ self.old.window }
+        ensures written { result ≡ true
+            → Flushes R.File.stream_position R.File.contents self.old.file self.new.file self.old.window }
     {
         if !self.window.waits() {
             return true;
         }
-        let first = self.window.first();
-        let found = self.find(first);
-        self.stands = None;
         let Some(file) = &mut self.file else {
             return false;
         };
-        if !found || write_whole(file, self.window.bytes()) != Put::Done {
+        if !write_at(file, self.window.first(), self.window.bytes()) {
             return false;
         }
-        self.stands = self.window.end();
         self.window.settle();
         true
     }
@@ -131,17 +109,17 @@ impl<R: rt::Files + Drop> FileSwap<R> {
         requires done { self.old.window.waits ≡ false }
         ensures faults { self.new.faults ≡ self.old.faults }
         ensures noted { self.new.noted ≡ self.old.noted }
+        ensures read { result ≡ true
+            → Fills R.File.stream_position R.File.remaining self.old.file self.new.file i self.new.window }
     {
-        let found = self.find(i);
-        self.stands = None;
         let count = self.noted.known_from(i);
         let Some(file) = &mut self.file else {
             return false;
         };
-        if !found {
+        if !seek_to(file, i) {
             return false;
         }
-        self.stands = self.window.fill(file, i, count);
+        self.window.fill(file, i, count);
         true
     }
 
@@ -151,6 +129,8 @@ impl<R: rt::Files + Drop> FileSwap<R> {
         requires { i < 65536 }
         ensures held { (block : List ℕ) → has_block self.old.window i block → result ≡ true → into.new ≡ block }
         ensures given { result ≡ true → has_block self.new.window i into.new }
+        ensures from { result ≡ true
+            → IsGiven R.File.stream_position R.File.remaining self.old.window self.new.file i into.new }
         ensures faults { self.new.faults ≡ self.old.faults }
         ensures noted { self.new.noted ≡ self.old.noted }
     {
@@ -187,8 +167,9 @@ impl<R: rt::Files + Drop> SwapDevice for FileSwap<R> {
     ghost use Rattle.std.specs.Prelude.{◌≢◌, ◌<◌, ℕ, List, IsTrue, false};
     ghost use Rattle.o2_outer.specs.Answers.{HasCause, CountsDev};
     ghost use Rattle.o2_outer.specs.Accesses.{all_agree, content, is_known, with_read, with_write};
-    ghost use Rattle.o2_outer.specs.Streams.{swap_history, swap_faults, swap_window};
+    ghost use Rattle.o2_outer.specs.Streams.{swap_history, swap_faults, swap_window, swap_file};
     ghost use Rattle.o2_outer.specs.Ahead.{has_block};
+    ghost use Rattle.o2_outer.specs.Sums.{block_sum};
 
     ghost blocks = { λ _. 65536 };
 
@@ -213,10 +194,22 @@ impl<R: rt::Files + Drop> SwapDevice for FileSwap<R> {
         ensures cause { HasCause (swap_faults self.old) (swap_faults self.new) result }
         ensures counts { CountsDev (swap_faults self.old) (swap_faults self.new) result }
         ensures unknown { is_known (swap_history self.old) i ≡ false → result ≡ Dev.Failed }
+        // What comes has the sum of what was written last; where it has another one, that is a fault, and is counted.
+        ensures summed { result ≡ Dev.Done
+            → block_sum into.new ≡ block_sum (content (swap_history self.old) i) }
+        ensures other_sum { block_sum into.new ≢ block_sum (content (swap_history self.old) i)
+            → (result ≡ Dev.Failed) × (swap_faults self.new ≡ risen (swap_faults self.old)) }
         // What is in memory is given as it is there, whatever the file has.
         ensures held { (block : List ℕ) → has_block (swap_window self.old) i block → result ≡ Dev.Done → into.new ≡ block }
+        // What isn't comes from the file, just as that gave it at the block's place.
+        ensures from { result ≡ Dev.Done → IsGiven R.File.stream_position R.File.remaining
+            (swap_window self.old) (swap_file self.new) i into.new }
     {
-        if !(self.noted.knows(i) && self.open() && self.reads(i, into)) {
+        if !(self.noted.knows(i)
+            && self.open()
+            && self.reads(i, into)
+            && self.noted.agrees(i, into))
+        {
             return self.fault();
         }
         self.noted.read(i, into);

@@ -1,7 +1,7 @@
 // Blocks of a file that follow one another, in memory.
 ghost use Rattle.std.specs.Prelude.{◌≡◌, ◌≤◌, ◌<◌, ◌+◌, ◌-◌, ◌*◌, List, ℕ, IfSome, true, false, take, drop, length};
 ghost use Rattle.std.specs.Option.{IfNone};
-ghost use Rattle.o2_outer.specs.Windows.{with_bytes, Has, KeepOthers};
+ghost use Rattle.o2_outer.specs.Windows.{with_bytes, Has, KeepOthers, IsFilled};
 
 use crate::reading::read_on;
 use std::io::Read;
@@ -56,13 +56,6 @@ impl Window {
         ensures { result ≡ self.now.first }
     {
         self.first
-    }
-
-    /// The block behind them, where there is such a number.
-    pub(crate) fn end(&self) -> Option<u32>
-        ensures { IfSome result (λ i. i ≡ self.now.first + self.now.len) }
-    {
-        self.first.checked_add(self.len)
     }
 
     /// Whether they aren't in the file yet.
@@ -172,23 +165,18 @@ impl Window {
         self.waits = true;
     }
 
-    /// Reads so many blocks from one on, at most 16, as far as they are there, and none where a read fails; none waits. Gives the block behind
-    /// them, where all were read.
-    pub(crate) fn fill<R: Read>(&mut self, reader: &mut R, i: u32, count: u32) -> Option<u32>
+    /// Reads so many blocks from one on, at most 16, as far as they are there, and none where a read fails; none waits.
+    pub(crate) fn fill<R: Read>(&mut self, reader: &mut R, i: u32, count: u32)
         requires { self.old.waits ≡ false }
         ensures waits { self.new.waits ≡ false }
+        ensures read { IsFilled (R.remaining reader.old) (R.remaining reader.new) i self.new.bytes self.new.first self.new.len }
     {
         let wanted = bytes_of(count);
         self.len = 0;
         let (held, whole) = read_on(reader, &mut self.bytes, 0, wanted);
-        if !whole {
-            return None;
+        if whole {
+            self.first = i;
+            self.len = (held / BLOCK) as u32;
         }
-        self.first = i;
-        self.len = (held / BLOCK) as u32;
-        if held < wanted {
-            return None;
-        }
-        self.end()
     }
 }

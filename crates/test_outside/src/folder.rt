@@ -1,5 +1,6 @@
 // Files of the folder that a command runs in.
 
+use crate::blocks::{gives, is_lost, write};
 use o2_base::{Bytes, NoMemory};
 use o2_outer::{Dev, Fetch, FileSwap, Files, FolderFiles, SwapDevice};
 use std::test::Fail;
@@ -45,35 +46,12 @@ fn a_file_of_the_folder(rt: HostRuntime) -> Result<(), Fail> {
 /// The name of the swap device's file.
 const SWAP_FILE: &str = "os2run.swp";
 
-/// Whether all of some bytes are this one.
-fn are_all(bytes: &[u8], byte: u8) -> bool {
-    for other in bytes {
-        if *other != byte {
-            return false;
-        }
-    }
-    true
-}
-
 /// Whether a device of 65,536 blocks gives two back that were written.
 fn gives_back<S: SwapDevice>(swap: &mut S) -> bool {
-    if swap.count() != 65_536 {
-        return false;
-    }
-    let mut third = [0u8; 512];
-    let mut first = [0u8; 512];
-    let answers = [
-        swap.write(3, &[3u8; 512]),
-        swap.write(1, &[1u8; 512]),
-        swap.read(3, &mut third),
-        swap.read(1, &mut first),
-    ];
-    answers == [Dev::Done; 4] && are_all(&third, 3) && are_all(&first, 1)
-}
-
-/// Whether a device has a block 3 that can't be read.
-fn is_lost<S: SwapDevice>(swap: &mut S) -> bool {
-    swap.count() > 3 && swap.read(3, &mut [0u8; 512]) == Dev::Failed
+    swap.count() == 65_536
+        && [write(swap, 3, 3), write(swap, 1, 1)] == [Dev::Done; 2]
+        && gives(swap, 3, 3)
+        && gives(swap, 1, 1)
 }
 
 /// Whether a device that has no file yet gives blocks back, its file has four blocks then, and the last is lost where that is cut short.
@@ -81,7 +59,7 @@ fn is_cut<S: SwapDevice>(rt: &HostRuntime, swap: &mut S) -> io::Result<bool> {
     let gives_back = gives_back(swap);
     let len = fs::metadata(rt, SWAP_FILE)?.len();
     fs::write(rt, SWAP_FILE, "short")?;
-    let is_lost = is_lost(swap);
+    let is_lost = is_lost(swap, 3);
     fs::remove_file(rt, SWAP_FILE)?;
     Ok(gives_back && len == 2048 && is_lost)
 }
@@ -94,10 +72,72 @@ fn is_hindered<S: SwapDevice>(rt: &HostRuntime, swap: &mut S) -> io::Result<bool
     Ok(fails)
 }
 
+/// What somebody else does to the file of a device in use, and whether a block that was in it is lost by that.
+static CHANGES: [(Change, bool); 5] = [
+    (Change::Cut, true),
+    (Change::CutAndGrown, true),
+    (Change::Overwritten, true),
+    (Change::Replaced, false),
+    (Change::Removed, false),
+];
+
+/// One of these. A file that is replaced or removed stays as it was for who has it open.
+#[derive(Clone, Copy)]
+enum Change {
+    Cut,
+    CutAndGrown,
+    Overwritten,
+    Replaced,
+    Removed,
+}
+
+/// Does it.
+fn make_change(rt: &HostRuntime, what: Change) -> io::Result<()> {
+    match what {
+        Change::Cut | Change::CutAndGrown => fs::write(rt, SWAP_FILE, ""),
+        Change::Overwritten => fs::write(rt, SWAP_FILE, [b'x'; 4096].as_slice()),
+        Change::Replaced => {
+            fs::write(rt, "other.swp", [b'x'; 4096].as_slice())?;
+            fs::rename(rt, "other.swp", SWAP_FILE)
+        }
+        Change::Removed => fs::remove_file(rt, SWAP_FILE),
+    }
+}
+
+/// Whether a device whose file was changed tells that, or gives what was written.
+fn tells<S: SwapDevice>(swap: &mut S, is_grown: bool, is_told: bool) -> bool {
+    if is_grown && [write(swap, 5, 5), write(swap, 7, 7)] != [Dev::Done; 2] {
+        return false;
+    }
+    if is_told {
+        is_lost(swap, 3)
+    } else {
+        gives(swap, 3, 3)
+    }
+}
+
+/// The same of a device that has no file yet. Behind a cut the file grows by what is written then, so a hole of zeros is in front.
+fn is_changed<S: SwapDevice>(
+    rt: &HostRuntime,
+    swap: &mut S,
+    what: Change,
+    is_told: bool,
+) -> io::Result<bool> {
+    let is_written = [write(swap, 3, 3), write(swap, 1, 1)] == [Dev::Done; 2];
+    make_change(rt, what)?;
+    let is_grown = matches!(what, Change::CutAndGrown);
+    let tells = tells(swap, is_grown, is_told);
+    if !matches!(what, Change::Removed) {
+        fs::remove_file(rt, SWAP_FILE)?;
+    }
+    Ok(is_written && tells)
+}
+
 /// What is tried of a device over the folder.
 enum Trial {
     Cut,
     Hindered,
+    Changed(Change, bool),
 }
 
 /// Whether it comes to what it must.
@@ -106,6 +146,7 @@ fn passes(rt: &HostRuntime, trial: Trial) -> io::Result<bool> {
     match trial {
         Trial::Cut => is_cut(rt, &mut swap),
         Trial::Hindered => is_hindered(rt, &mut swap),
+        Trial::Changed(what, is_told) => is_changed(rt, &mut swap, what, is_told),
     }
 }
 
@@ -113,5 +154,8 @@ fn passes(rt: &HostRuntime, trial: Trial) -> io::Result<bool> {
 fn a_swap_device_in_a_file_of_the_folder(rt: HostRuntime) -> Result<(), Fail> {
     let passed = [passes(&rt, Trial::Cut)?, passes(&rt, Trial::Hindered)?];
     assert_eq!(rt; passed, [true, true]);
+    for (what, is_told) in CHANGES.iter() {
+        assert!(rt; passes(&rt, Trial::Changed(*what, *is_told))?, "{is_told}");
+    }
     Ok(())
 }

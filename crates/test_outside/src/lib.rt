@@ -2,6 +2,12 @@
 #![tactic(auto)]
 
 #[cfg(test)]
+mod blocks;
+#[cfg(test)]
 mod folder;
 #[cfg(test)]
 mod outer;
+#[cfg(test)]
+mod swap;
+#[cfg(test)]
+mod system;
