@@ -1,39 +1,36 @@
 -- What a step of a process starts from in two worlds in which it is alike.
 use Rattle.std.proofs.Common.{◌≡◌, ◌⊎◌, inl, inr, refl, sym, ◌∙◌, ap, subst, ℕ, ◌+◌, ◌-◌, ◌<◌, ◌≤◌, ◌/◌, ◌==◌, ◌&&◌, ◌||◌, Bool, true, false, cond, List, length, arith}
-use Rattle.std.specs.Prelude.{Option, Some, None, option_map, is_some, nat_lt, not, Result, Ok, Err}
+use Rattle.std.specs.Prelude.{Option, Some, None, option_map, is_some, nat_lt, Result, Ok, Err}
 use Rattle.std.specs.List.{list_any}
 use Rattle.o2_isa.specs.declared.cpu.Cpu.{Cpu}
 use Rattle.o2_isa.specs.declared.cpu.Stop.{Stop}
 use Rattle.o2_isa.specs.declared.instr.Sreg.{Sreg}
 use Rattle.o2_isa.specs.declared.instr.Sreg.TheVariants.{Es, Cs, Ss, Ds}
-use Rattle.o2_isa.specs.View.{Hold, in_register, bound_registers, is_writable}
+use Rattle.o2_isa.specs.View.{Hold, in_register, bound_registers}
 use Rattle.o2_isa.specs.Steps.{State as Machine, state}
 use Rattle.o2_isa.specs.Step.{stepped}
-use Rattle.o2_world.specs.declared.types.Row.{Row}
-use Rattle.o2_world.specs.declared.types.Row.TheVariants.{DosExit, DosGetPid, DosRead, DosWrite, DosMemAvail, OnSegments, OnShared, OnRuns}
-use Rattle.o2_world.specs.declared.types.SegmentCall.{SegmentCall}
-use Rattle.o2_world.specs.declared.types.SegmentCall.TheVariants.{DosAllocSeg, DosReallocSeg, DosFreeSeg, DosSizeSeg, DosLockSeg, DosUnlockSeg, DosCreateCsAlias}
-use Rattle.o2_world.specs.declared.types.HugeCall.{HugeCall}
-use Rattle.o2_world.specs.declared.types.HugeCall.TheVariants.{DosAllocHuge, DosReallocHuge, DosGetHugeShift}
 use Rattle.o2_world.specs.Rulings.{held_under, members}
-use Rattle.o2_world.specs.HugeRulings.{is_huge_fault, segments_of}
+use Rattle.o2_world.specs.HugeRulings.{segments_of}
 use Rattle.o2_world.specs.Map.{get}
 use Rattle.o2_world.specs.World.{World, Setting, Process, Segment, Held}
 use Rattle.o2_world.specs.Sound.{held_of}
 use Rattle.o2_world.specs.Tied.{IsTied, lives_in}
 use Rattle.o2_world.specs.Views.{hold_of, holds_in, bytes_in, segment_bytes, view_of}
 use Rattle.o2_world.specs.Known.{known_of, held_at, holds_index, marks_of, reserves, taken_in}
-use Rattle.o2_world.specs.CallParts.{Before, argument, has_arguments, may_write}
+use Rattle.o2_world.specs.CallParts.{Before, argument, has_arguments}
+use Rattle.o2_world.specs.Slots.{are_good, pointers_in, words_in}
+use Rattle.o2_world.specs.Outcomes.{CallRow}
+use Rattle.o2_world.specs.Calls.{row_of}
 use Rattle.o2_world.specs.Run.{before}
 use Rattle.o2_world.proofs.MapLemmas.{if_yes, if_no}
 use Rattle.o2_world.proofs.Numbers.{number_some, at_place_of, not_zero}
-use Rattle.o2_alone.specs.Renaming.{Renaming, renamed_hold, renamed_held, IsIn, IsRenamedView, IsRenamedKnown, IsRenamed, IsRenamedResult, IsAskedAlike, IsRunAlike}
-use Rattle.o2_alone.specs.Renaming.{IsRuledAlike, AreNumberedAlike, asks_for_members_of, asks_for_room, asks_for_run, comes_to_room, is_full_for, new_segments}
-use Rattle.o2_alone.specs.Renaming.{resized_run, run_segments, call_of, called_by, is_full}
-use Rattle.o2_alone.specs.Keeping.{lacks_members, lacks_room, meets, reaches_shared}
+use Rattle.o2_world.proofs.Rows.{found}
+use Rattle.o2_alone.specs.Renaming.{Asking, Renaming, renamed_hold, renamed_held, IsIn, IsRenamedView, IsRenamedKnown, IsRenamed, IsRenamedResult, IsAskedAlike}
+use Rattle.o2_alone.specs.Renaming.{AreNumberedAlike, asked, asking_by, asking_of, askings, asks_nothing, call_of, called_by, comes_in, comes_to_room, new_in_run, some_where}
+use Rattle.o2_alone.specs.Keeping.{lacks, lacks_room, meets}
 use Rattle.o2_alone.specs.Isolation.{IsLike}
 use Rattle.o2_alone.proofs.RenamedViews.{bound_renamed, bound_is_in, stepped_renamed}
-use Rattle.o2_alone.proofs.RenamedCalls.{Twins, arguments_same, good_same, has_same, other}
+use Rattle.o2_alone.proofs.RenamedCalls.{Twins, are_good_same, arguments_same, has_same, other}
 use Rattle.o2_alone.proofs.RenamedRulings.{members_renamed, under_renamed}
 use Rattle.o2_alone.proofs.RenamedRuns.{comes_renamed}
 use Rattle.o2_alone.proofs.OwnReserves.{same_reserved}
@@ -59,9 +56,6 @@ pub record IsHeldName (p : Process) (n : ℕ) : Type 0 where
 
 abbrev pub IsSpokenOf : Process → ℕ → ℕ → Type 0
 IsSpokenOf p first n = IsHeldName p n ⊎ (first ≤ n)
-
-not_none : (n m : ℕ) → n < m → m ≤ n → ⊥
-not_none n m a b = omega (arith, a, b)
 
 module _ (f : Renaming) (number : ℕ) (w a : World) (like : IsLike f number w a) (tied : IsTied w) (tied_alone : IsTied a) where
   pub lives_here : (i : ℕ) (h : Held) → get like.process.held i ≡ Some h → lives_in w h.name ≡ true
@@ -260,86 +254,91 @@ call_same f b o same =
     called_same f (stepped (state b.cpu b.view)) (stepped (state o.cpu o.view))
     (subst (λ (c : Cpu). IsRenamedResult f (stepped (state b.cpu b.view)) (stepped (state c o.view))) (sym same.cpu) (stepped_renamed f b.cpu b.view o.view same.view))
 
-asks_same : (f : Renaming) (b o : Before) → IsRenamed f b o → asks_for_room o ≡ asks_for_room b
-asks_same f b o same = of_twin f b o same (λ (o : Before). asks_for_room o ≡ asks_for_room b)
-    (ap (λ (a : ℕ → ℕ). has_arguments o.view b.cpu 4 && (may_write o.view (a 2) (a 1) 2 && not (nat_lt 15 (a 0)))) (arguments_same (twins_of f b o same))
-    ∙ (ap (λ (t : Bool). t && (may_write o.view (argument b.view b.cpu 2) (argument b.view b.cpu 1) 2 && not (nat_lt 15 (argument b.view b.cpu 0)))) (has_same (twins_of f b o same) 4)
-    ∙ ap (λ (t : Bool). has_arguments b.view b.cpu 4 && (t && not (nat_lt 15 (argument b.view b.cpu 0)))) (good_same (twins_of f b o same) is_writable (argument b.view b.cpu 2) (argument b.view b.cpu 1) 2)))
+comes_in_same : (t : Twins) (o : Option CallRow) → comes_in (other t) o ≡ comes_in t.one o
+comes_in_same t None = refl
+comes_in_same t (Some r) =
+    let n = words_in r.slots in
+    let a : ℕ → ℕ = argument t.one.view t.one.cpu in
+    ap (λ (x : ℕ → ℕ). has_arguments t.view t.one.cpu n && are_good t.view (pointers_in r.slots t.view x)) (arguments_same t)
+    ∙ (ap (λ (x : Bool). x && are_good t.view (pointers_in r.slots t.view a)) (has_same t n)
+    ∙ ap (λ (x : Bool). has_arguments t.one.view t.one.cpu n && x) (are_good_same t r.slots a))
 
-second_false : (a b : Bool) → (a && b) ≡ false → a ≡ true → b ≡ false
-second_false true b e f = e
-second_false false b e f = absurd (cc)
+-- a call asks for as many segments, whatever numbers names have
+record AsksSame (asking : Asking) : Type 0 where
+  same : (t : Twins) (a : ℕ → ℕ) → asking.segments (other t) a ≡ asking.segments t.one a
 
--- the same of a call on a huge allocation
-asks_run_same : (f : Renaming) (b o : Before) → IsRenamed f b o → asks_for_run o ≡ asks_for_run b
-asks_run_same f b o same = of_twin f b o same (λ (o : Before). asks_for_run o ≡ asks_for_run b)
-    (ap (λ (a : ℕ → ℕ). has_arguments o.view b.cpu 6 && (may_write o.view (a 3) (a 2) 2 && not (is_huge_fault (segments_of (a 5) (a 4)) (a 1) (a 0)))) (arguments_same (twins_of f b o same))
-    ∙ (ap (λ (t : Bool). t && (may_write o.view (c 3) (c 2) 2 && not (is_huge_fault (segments_of (c 5) (c 4)) (c 1) (c 0)))) (has_same (twins_of f b o same) 6)
-    ∙ ap (λ (t : Bool). has_arguments b.view b.cpu 6 && (t && not (is_huge_fault (segments_of (c 5) (c 4)) (c 1) (c 0)))) (good_same (twins_of f b o same) is_writable (c 3) (c 2) 2)))
+new_same : (t : Twins) (segs part s : ℕ) → new_in_run t.known t.one.number (s / 8) segs part t.one.cpu (held_under t.known t.one.number s) ≡ new_in_run t.one.known t.one.number (s / 8) segs part t.one.cpu (held_under t.one.known t.one.number s)
+new_same t segs part s =
+    ap (new_in_run t.known t.one.number (s / 8) segs part t.one.cpu) (under_renamed t.names t.one.number t.one.known t.known t.knows s) ∙ by_hold (held_under t.one.known t.one.number s)
   where
-    c : ℕ → ℕ
-    c = argument b.view b.cpu
+    by_hold : (o : Option Held) → new_in_run t.known t.one.number (s / 8) segs part t.one.cpu (option_map (renamed_held t.names) o) ≡ new_in_run t.one.known t.one.number (s / 8) segs part t.one.cpu o
+    by_hold None = refl
+    by_hold (Some h) =
+        ap (λ (x : Bool). some_where x (segments_of segs part - length (members t.known t.one.number (s / 8) (renamed_held t.names h))))
+        (comes_renamed t.names t.one.number t.one.known t.known t.knows segs part (s / 8) t.one.cpu h)
+        ∙ ap (λ (is : List ℕ). some_where (comes_to_room t.one.known t.one.number (s / 8) segs part t.one.cpu h) (segments_of segs part - length is))
+        (members_renamed t.names t.one.number t.one.known t.known t.knows (s / 8) h)
 
-run_segments_same : (f : Renaming) (b o : Before) → IsRenamed f b o → run_segments o ≡ run_segments b
-run_segments_same f b o same = of_twin f b o same (λ (o : Before). run_segments o ≡ run_segments b) (ap (λ (a : ℕ → ℕ). segments_of (a 5) (a 4)) (arguments_same (twins_of f b o same)))
+by_words : (asking : Asking) → ((t : Twins) (a : ℕ → ℕ) → asking.segments (other t) a ≡ asking.segments t.one a) → AsksSame asking
+by_words asking same = record { same = same }
 
--- what a DosReallocHuge lacks there is what it lacks here
-lacks_same : (f : Renaming) (b o : Before) → IsRenamed f b o → (h : Held) → resized_run b ≡ Some h → lacks_members o (resized_run o) ≡ (asks_for_members_of b h && is_full_for (new_segments b h) o.known)
-lacks_same f b o same h under = of_twin f b o same (λ (o : Before). lacks_members o (resized_run o) ≡ (asks_for_members_of b h && is_full_for (new_segments b h) o.known))
-    (ap (lacks_members (other t)) (ap (λ (a : ℕ → ℕ). held_under o.known n (a 0)) (arguments_same t) ∙ (under_renamed f n b.known o.known same.known (c 0) ∙ ap (option_map (renamed_held f)) under))
-    ∙ (ap (λ (a : ℕ → ℕ). (has_arguments o.view b.cpu 3 && comes_to_room o.known n (a 0 / 8) (a 2) (a 1) b.cpu (renamed_held f h)) && is_full_for (segments_of (a 2) (a 1) - length (members o.known n (a 0 / 8) (renamed_held f h))) o.known) (arguments_same t)
-    ∙ (ap (λ (u : Bool). (u && comes_to_room o.known n (c 0 / 8) (c 2) (c 1) b.cpu (renamed_held f h)) && is_full_for (segments_of (c 2) (c 1) - length (members o.known n (c 0 / 8) (renamed_held f h))) o.known) (has_same t 3)
-    ∙ (ap (λ (u : Bool). (has_arguments b.view b.cpu 3 && u) && is_full_for (segments_of (c 2) (c 1) - length (members o.known n (c 0 / 8) (renamed_held f h))) o.known) (comes_renamed f n b.known o.known same.known (c 2) (c 1) (c 0 / 8) b.cpu h)
-    ∙ ap (λ (is : List ℕ). (has_arguments b.view b.cpu 3 && comes_to_room b.known n (c 0 / 8) (c 2) (c 1) b.cpu h) && is_full_for (segments_of (c 2) (c 1) - length is) o.known) (members_renamed f n b.known o.known same.known (c 0 / 8) h)))))
+-- in the order of the table
+ask_same : (service : ℕ) → AsksSame (asking_of service)
+unfolding asking_of
+ask_same service =
+    found (λ (n : ℕ) (o : Option Asking). AsksSame (asking_by o)) (λ n. by_words asks_nothing (λ t a. refl)) askings (
+      by_words _ (λ t a. refl),
+      (
+        by_words _ (λ t a. refl),
+        (
+          by_words _ (λ t a. refl),
+          (
+            by_words _ (λ t a. refl),
+            (
+              by_words _ (λ t a. refl),
+              (
+                by_words _ (λ t a. refl),
+                (by_words _ (λ t a. refl), (by_words _ (λ t a. new_same t (a 2) (a 1) (a 0)), tt)),
+              ),
+            ),
+          ),
+        ),
+      ),
+    ) service
+
+asked_same : (f : Renaming) (b o : Before) → IsRenamed f b o → (service : ℕ) → asked o service ≡ asked b service
+asked_same f b o same service = of_twin f b o same (λ (o : Before). asked o service ≡ asked b service) (of_twins (twins_of f b o same))
   where
-    t : Twins
-    t = twins_of f b o same
+    of_twins : (t : Twins) → asked (other t) service ≡ asked t.one service
+    of_twins t =
+        let a : ℕ → ℕ = argument t.one.view t.one.cpu in
+        ap (λ (x : Bool). cond x ((asking_of service).segments (other t) (argument t.view t.one.cpu)) None) (comes_in_same t (row_of service))
+        ∙ (ap (λ (x : ℕ → ℕ). cond (comes_in t.one (row_of service)) ((asking_of service).segments (other t) x) None) (arguments_same t)
+        ∙ ap (λ (x : Option ℕ). cond (comes_in t.one (row_of service)) x None) ((ask_same service).same t a))
 
-    n : ℕ
-    n = b.number
+none_of : (x y z : Bool) → (x || (y || z)) ≡ false → (x ≡ false) × ((y ≡ false) × (z ≡ false))
+none_of true y z e = absurd (cc)
+none_of false true z e = absurd (cc)
+none_of false false true e = absurd (cc)
+none_of false false false e = (refl, (refl, refl))
 
-    c : ℕ → ℕ
-    c = argument b.view b.cpu
+not_both : {P : Type 0} (x : Bool) → x ≡ true → x ≡ false → P
+not_both {P} x is is_not = absurd (let both : true ≡ false = sym is ∙ is_not in cc)
 
 pub asked_alike : (f : Renaming) (b o : Before) → IsRenamed f b o → AreNumberedAlike f b.known o.known → meets b (call_of b) ≡ false → lacks_room b (call_of b) ≡ false → lacks_room o (call_of o) ≡ false
     → IsAskedAlike f (call_of b) b o
-asked_alike f b o same numbered quiet room room_too = by_row (call_of b) quiet room (subst (λ (row : Option Row). lacks_room o row ≡ false) (call_same f b o same) room_too)
+asked_alike f b o same numbered quiet room room_too = by_call (call_of b) quiet room (subst (λ (call : Option ℕ). lacks_room o call ≡ false) (call_same f b o same) room_too)
   where
-    by_call : (call : SegmentCall) → meets b (Some (OnSegments call)) ≡ false → lacks_room b (Some (OnSegments call)) ≡ false → lacks_room o (Some (OnSegments call)) ≡ false → IsRuledAlike call b o
-    by_call DosAllocSeg quiet room room_too = record {
-      room = λ asks. second_false (asks_for_room o) (is_full o.known) room_too (asks_same f b o same ∙ asks) ∙ sym (second_false (asks_for_room b) (is_full b.known) room asks);
-      shared = λ others. absurd (let no : true ≡ false = sym others ∙ quiet in cc);
-    }
-    by_call DosReallocSeg quiet room room_too = tt
-    by_call DosFreeSeg quiet room room_too = tt
-    by_call DosSizeSeg quiet room room_too = tt
-    by_call DosLockSeg quiet room room_too = tt
-    by_call DosUnlockSeg quiet room room_too = tt
-    by_call DosCreateCsAlias quiet room room_too = tt
-
-    by_run : (call : HugeCall) → meets b (Some (OnRuns call)) ≡ false → lacks_room b (Some (OnRuns call)) ≡ false → lacks_room o (Some (OnRuns call)) ≡ false → IsRunAlike f call b o
-    by_run DosAllocHuge quiet room room_too = record {
-      names = numbered;
-      room = λ asks. ap (λ (m : ℕ). is_full_for m o.known) (sym (run_segments_same f b o same))
-          ∙ (second_false (asks_for_run o) (is_full_for (run_segments o) o.known) room_too (asks_run_same f b o same ∙ asks) ∙ sym (second_false (asks_for_run b) (is_full_for (run_segments b) b.known) room asks));
-      shared = λ others. absurd (let no : true ≡ false = sym others ∙ quiet in cc);
-    }
-    by_run DosReallocHuge quiet room room_too = record {
-      names = numbered;
-      own = λ h under. ap reaches_shared (sym under) ∙ quiet;
-      room = λ h under asks.
-          second_false (asks_for_members_of b h) (is_full_for (new_segments b h) o.known) (sym (lacks_same f b o same h under) ∙ room_too) asks
-          ∙ sym (second_false (asks_for_members_of b h) (is_full_for (new_segments b h) b.known) (ap (lacks_members b) (sym under) ∙ room) asks);
-    }
-    by_run DosGetHugeShift quiet room room_too = tt
-
-    by_row : (row : Option Row) → meets b row ≡ false → lacks_room b row ≡ false → lacks_room o row ≡ false → IsAskedAlike f row b o
-    by_row None quiet room room_too = tt
-    by_row (Some DosExit) quiet room room_too = tt
-    by_row (Some DosGetPid) quiet room room_too = tt
-    by_row (Some DosRead) quiet room room_too = absurd (cc)
-    by_row (Some DosWrite) quiet room room_too = tt
-    by_row (Some DosMemAvail) quiet room room_too = tt
-    by_row (Some (OnSegments call)) quiet room room_too = by_call call quiet room room_too
-    by_row (Some (OnShared call)) quiet room room_too = absurd (cc)
-    by_row (Some (OnRuns call)) quiet room room_too = by_run call quiet room room_too
+    by_call : (call : Option ℕ) → meets b call ≡ false → lacks_room b call ≡ false → lacks_room o call ≡ false → IsAskedAlike f call b o
+    by_call None quiet room room_too = tt
+    by_call (Some service) quiet room room_too =
+        let asking = asking_of service in
+        let a : ℕ → ℕ = argument b.view b.cpu in
+        let none = none_of asking.input (asking.others b a) (asking.region a) quiet in
+        record {
+          input = λ reads. not_both asking.input reads none.0;
+          alone = none.1.0;
+          region = λ shares. not_both (asking.region a) shares none.1.1;
+          names = λ many. numbered;
+          room = λ n e. ap (lacks o.known) (sym (asked_same f b o same service ∙ e)) ∙ (room_too ∙ sym (ap (lacks b.known) (sym e) ∙ room));
+        }

@@ -1,33 +1,29 @@
 -- What any step changes, by names: it sizes and locks what its process holds, and what it makes may change.
-use Rattle.std.proofs.Common.{◌≡◌, ◌⊎◌, refl, ℕ, ◌+◌, ◌-◌, ◌/◌, ◌==◌, ◌&&◌, ◌||◌, Bool, true, false, cond, List, [], ◌∷◌, ◌++◌, length}
-use Rattle.std.specs.Prelude.{Option, Some, None, Result, Ok, Err, codes, drop, is_some, nat_le, nat_lt}
+use Rattle.std.proofs.Common.{◌≡◌, ◌⊎◌, refl, sym, subst, ℕ, ◌+◌, ◌-◌, ◌/◌, ◌==◌, ◌&&◌, ◌||◌, Bool, true, false, cond, List, [], ◌∷◌, ◌++◌, length}
+use Rattle.std.specs.Prelude.{Option, Some, None, Result, Ok, Err, drop, is_some, nat_le, nat_lt}
 use Rattle.o2_isa.specs.declared.cpu.Stop.{Stop}
 use Rattle.o2_isa.specs.declared.cpu.Stop.TheVariants as stop
 use Rattle.o2_isa.specs.View.{is_local}
 use Rattle.o2_isa.specs.Steps.{State as Machine, state}
 use Rattle.o2_isa.specs.Step.{stepped}
-use Rattle.o2_world.specs.declared.types.Argument.{Argument}
-use Rattle.o2_world.specs.declared.types.Argument.TheVariants.{Far}
-use Rattle.o2_world.specs.declared.types.Row.{Row}
-use Rattle.o2_world.specs.declared.types.Row.TheVariants.{DosExit, DosGetPid, DosRead, DosWrite, DosMemAvail, OnSegments, OnShared, OnRuns}
-use Rattle.o2_world.specs.declared.types.SharedCall.{SharedCall}
-use Rattle.o2_world.specs.declared.types.SharedCall.TheVariants.{DosAllocShrSeg, DosGetShrSeg, DosGiveSeg, DosGetSeg}
-use Rattle.o2_world.specs.declared.types.HugeCall.{HugeCall}
-use Rattle.o2_world.specs.declared.types.HugeCall.TheVariants.{DosAllocHuge, DosReallocHuge, DosGetHugeShift}
 use Rattle.o2_world.specs.World.{ByCall, Held, is_live}
 use Rattle.o2_world.specs.Changes.{Change, Makes, Resizes, Locks, Marks, Holds, Drops, Finishes, Reserves, Frees, Names}
-use Rattle.o2_world.specs.CallParts.{Before, Effect, argument, has_arguments, may_write}
+use Rattle.o2_world.specs.declared.types.Slot.{Slot}
+use Rattle.o2_world.specs.CallParts.{Before, Effect}
 use Rattle.o2_world.specs.Rulings.{Ruling, free_index, held_by_call, held_under, in_use, is_discardable, is_in_run, is_later, members, refusal}
-use Rattle.o2_world.specs.SegmentCalls.{Written, ruled_at, written_word}
-use Rattle.o2_world.specs.SharedNames.{may_read_text, name_by, text_at}
-use Rattle.o2_world.specs.SharedRulings.{shared_from, each_more, getting, getting_at, getting_from, giving, giving_of, holder, index_of, lacks_flag, naming, naming_at, one_more, sharing, sharing_at, sharing_from, sharing_of}
-use Rattle.o2_world.specs.SharedCalls.{dos_alloc_shr_seg, dos_get_seg, dos_get_shr_seg, dos_give_seg, give_args, name_args, on_shared}
+use Rattle.o2_world.specs.SharedNames.{name_by, text_at}
+use Rattle.o2_world.specs.SharedRulings.{shared_from, each_more, getting, getting_at, getting_from, giving_of, holder, index_of, lacks_flag, naming, naming_at, one_more, sharing, sharing_at, sharing_from, sharing_of}
 use Rattle.o2_world.specs.HugeRulings.{all_bytes, all_hold, bytes_of, dropped_members, flags_in, held_in_run, huge_reallocation_of, is_first, left_in_run, new_members, other_shares, resized_members, run_changes, run_resized, segments_of, sizes_of}
-use Rattle.o2_world.specs.HugeCalls.{dos_realloc_huge, on_runs}
 use Rattle.o2_world.proofs.SegmentMoves.{held_there}
-use Rattle.o2_world.specs.Calls.{row_of, served_by}
+use Rattle.o2_world.specs.Outcomes.{CallRow, Outcome, ruled}
+use Rattle.o2_world.specs.Calls.{getting_by, giving_by, huge_reallocation_by, naming_by, rows, serviced, sharing_by}
+use Rattle.o2_world.specs.RowLaws.{EachRow, IsQuiet, changes_of}
+use Rattle.o2_world.proofs.Quiet.{changes_come, read_quiet, write_quiet}
+use Rattle.o2_world.proofs.Serving.{by_service}
+use Rattle.o2_alone.specs.Renaming.{Asking}
 use Rattle.o2_world.specs.Effect.{has_trap_flag, answered, single_stepped, effect}
-use Rattle.o2_alone.proofs.OwnNames.{AreOfOwn, IsGoodAlias, IsOfOwn, IsOwnName, RunsMayChange, dropped_own, may_change, members_may, no_alias, on_runs_own, served_own, sizes_own}
+use Rattle.o2_alone.proofs.OwnNames.{AreOfOwn, IsGoodAlias, IsOfOwn, IsOwnName, IsOwnRuling, RunsMayChange, aliasing_is, allocation_is, avail_is, dropped_own, freeing_is, huge_allocation_is}
+use Rattle.o2_alone.proofs.OwnNames.{locking_is, may_change, members_may, no_alias, reallocation_is, shift_is, sizes_own, sizing_is, unlocking_is}
 
 abbrev pub IsOfAny : Before → Change → Type 0
 IsOfAny b (Makes s) = s.clean ≡ false
@@ -120,33 +116,6 @@ module _ (b : Before) where
       of_holder None = tt
       of_holder (Some from) = from_holder from (b.known.held from (s / 8))
 
-  -- Calls.
-
-  either : (t : Bool) (e f : Effect) → AreOfAny b e.changes → AreOfAny b f.changes → AreOfAny b (cond t e f).changes
-  either true e f h k = h
-  either false e f h k = k
-
-  ruled_any : (next words : ℕ) (name : List ℕ) (args : List Argument) (t : Written) (r : Ruling) → AreOfAny b r.changes → AreOfAny b (ruled_at b next words name args t r).changes
-  ruled_any next words name args t r any = either (r.error == 0) _ _ any tt
-
-  on_shared_any : (call : SharedCall) (next : ℕ) → AreOfAny b (on_shared call b next).changes
-  unfolding dos_alloc_shr_seg dos_get_shr_seg dos_give_seg dos_get_seg
-  on_shared_any DosAllocShrSeg next =
-      let a : ℕ → ℕ = argument b.view b.cpu in
-      let o = name_by (text_at b.view (a 3) (a 2)) in
-      let r = naming b.known b.number (a 4) o in
-      either (has_arguments b.view b.cpu 5) _ _ (either (may_read_text b.view (a 3) (a 2) && may_write b.view (a 1) (a 0) 2) _ _ (ruled_any next 5 (codes "DosAllocShrSeg") (name_args (a 4) (a 3) (a 2) (a 1) (a 0)) (written_word (a 1) (a 0) r.value) r (naming_any (a 4) o)) tt) tt
-  on_shared_any DosGetShrSeg next =
-      let a : ℕ → ℕ = argument b.view b.cpu in
-      let o = name_by (text_at b.view (a 3) (a 2)) in
-      let r = sharing b.known b.number o in
-      either (has_arguments b.view b.cpu 4) _ _ (either (may_read_text b.view (a 3) (a 2) && may_write b.view (a 1) (a 0) 2) _ _ (ruled_any next 4 (codes "DosGetShrSeg") (Far (a 3) (a 2) ∷ Far (a 1) (a 0) ∷ []) (written_word (a 1) (a 0) r.value) r (sharing_any o)) tt) tt
-  on_shared_any DosGiveSeg next =
-      let a : ℕ → ℕ = argument b.view b.cpu in
-      let r = giving b.known b.number (a 3) (a 2) in
-      either (has_arguments b.view b.cpu 4) _ _ (either (may_write b.view (a 1) (a 0) 2) _ _ (ruled_any next 4 (codes "DosGiveSeg") (give_args (a 3) (a 2) (a 1) (a 0)) (written_word (a 1) (a 0) r.value) r (giving_any (a 3 / 8) (a 2) (held_under b.known b.number (a 3)))) tt) tt
-  on_shared_any DosGetSeg next = either (has_arguments b.view b.cpu 1) _ _ (getting_any (argument b.view b.cpu 0)) tt
-
   -- Huge allocations.
 
   append_any : (xs ys : List Change) → AreOfAny b xs → AreOfAny b ys → AreOfAny b (xs ++ ys)
@@ -190,36 +159,111 @@ module _ (b : Before) where
           (rules ((nat_le shared_from h.first && nat_lt (bytes_of segs part) (all_bytes b.known b.number is)) || in_use b.cpu (drop (segments_of segs part) is)) _ _ tt
           (rules (nat_lt b.known.most (b.known.count + (segments_of segs part - length is)) || nat_lt (length is + length (left_in_run b.known b.number h)) (segments_of segs part)) _ _ tt (granted (in_run (is_in_run h) f)))))
 
-  on_runs_any : RunsMayChange b → (call : HugeCall) (next : ℕ) → AreOfAny b (on_runs call b next).changes
-  unfolding dos_realloc_huge
-  on_runs_any may DosAllocHuge next = own_any (on_runs DosAllocHuge b next).changes (on_runs_own b may DosAllocHuge next tt)
-  on_runs_any may DosReallocHuge next =
-      let a : ℕ → ℕ = argument b.view b.cpu in
-      either (has_arguments b.view b.cpu 3) _ _ (resized_any may (a 2) (a 1) (a 0) (held_under b.known b.number (a 0)) refl) tt
-  on_runs_any may DosGetHugeShift next = own_any (on_runs DosGetHugeShift b next).changes (on_runs_own b may DosGetHugeShift next tt)
+-- Calls.
 
-  unshared : (row : Option Row) (next : ℕ) → AreOfOwn b (served_by row b next).changes → AreOfAny b (served_by row b next).changes
-  unshared row next own = own_any (served_by row b next).changes own
+record IsAnyRow (r : CallRow) : Type 0 where
+  any : (b : Before) (a : ℕ → ℕ) → RunsMayChange b → AreOfAny b (changes_of (r.outcome b a))
 
-  served_any : RunsMayChange b → (row : Option Row) (next : ℕ) → AreOfAny b (served_by row b next).changes
-  served_any may None next = unshared None next (served_own b may None next tt)
-  served_any may (Some DosExit) next = unshared (Some DosExit) next (served_own b may (Some DosExit) next tt)
-  served_any may (Some DosGetPid) next = unshared (Some DosGetPid) next (served_own b may (Some DosGetPid) next tt)
-  served_any may (Some DosRead) next = unshared (Some DosRead) next (served_own b may (Some DosRead) next tt)
-  served_any may (Some DosWrite) next = unshared (Some DosWrite) next (served_own b may (Some DosWrite) next tt)
-  served_any may (Some DosMemAvail) next = unshared (Some DosMemAvail) next (served_own b may (Some DosMemAvail) next tt)
-  served_any may (Some (OnSegments call)) next = unshared (Some (OnSegments call)) next (served_own b may (Some (OnSegments call)) next tt)
-  served_any may (Some (OnShared call)) next = on_shared_any call next
-  served_any may (Some (OnRuns call)) next = on_runs_any may call next
+record IsAnyRuling (ruling : Before → (ℕ → ℕ) → Ruling) : Type 0 where
+  any : (b : Before) (a : ℕ → ℕ) → RunsMayChange b → AreOfAny b (ruling b a).changes
+
+either : (b : Before) (t : Bool) (o q : Outcome) → AreOfAny b (changes_of o) → AreOfAny b (changes_of q) → AreOfAny b (changes_of (cond t o q))
+either b true o q h k = h
+either b false o q h k = k
+
+by_its_ruling : (name : List ℕ) (ss : List Slot) (ruling : Before → (ℕ → ℕ) → Ruling) → IsAnyRuling ruling → IsAnyRow (ruled name ss ruling)
+by_its_ruling name ss ruling h = record { any = λ b a may. either b ((ruling b a).error == 0) _ _ (h.any b a may) tt }
+
+-- of one that never goes by what other processes hold
+own : (asking : Asking) (name : List ℕ) (ss : List Slot) (ruling : Before → (ℕ → ℕ) → Ruling) → IsOwnRuling asking ruling → ((b : Before) (a : ℕ → ℕ) → asking.others b a ≡ false)
+    → IsAnyRow (ruled name ss ruling)
+own asking name ss ruling h alone = by_its_ruling name ss ruling (record { any = λ b a may. own_any b (ruling b a).changes (h.own b a may (alone b a)) })
+
+quiet : (r : CallRow) → IsQuiet r → IsAnyRow r
+quiet r none = record { any = λ b a may. subst (AreOfAny b) (sym (none b a)) tt }
+
+naming_is : IsAnyRuling naming_by
+naming_is = record { any = λ b a may. naming_any b (a 4) (name_by (text_at b.view (a 3) (a 2))) }
+
+sharing_is : IsAnyRuling sharing_by
+sharing_is = record { any = λ b a may. sharing_any b (name_by (text_at b.view (a 3) (a 2))) }
+
+giving_is : IsAnyRuling giving_by
+giving_is = record { any = λ b a may. giving_any b (a 3 / 8) (a 2) (held_under b.known b.number (a 3)) }
+
+getting_is : IsAnyRuling getting_by
+getting_is = record { any = λ b a may. getting_any b (a 0) }
+
+huge_reallocation_is : IsAnyRuling huge_reallocation_by
+huge_reallocation_is = record { any = λ b a may. resized_any b may (a 2) (a 1) (a 0) (held_under b.known b.number (a 0)) refl }
+
+-- in the order of the table
+any_rows : EachRow IsAnyRow rows
+any_rows = (
+  quiet _ (λ b a. refl),
+  (
+    quiet _ (λ b a. refl),
+    (
+      quiet _ read_quiet,
+      (
+        quiet _ write_quiet,
+        (
+          own _ _ _ _ allocation_is (λ b a. refl),
+          (
+            own _ _ _ _ reallocation_is (λ b a. refl),
+            (
+              own _ _ _ _ freeing_is (λ b a. refl),
+              (
+                own _ _ _ _ sizing_is (λ b a. refl),
+                (
+                  own _ _ _ _ locking_is (λ b a. refl),
+                  (
+                    own _ _ _ _ unlocking_is (λ b a. refl),
+                    (
+                      own _ _ _ _ aliasing_is (λ b a. refl),
+                      (
+                        by_its_ruling _ _ _ naming_is,
+                        (
+                          by_its_ruling _ _ _ sharing_is,
+                          (
+                            by_its_ruling _ _ _ giving_is,
+                            (
+                              by_its_ruling _ _ _ getting_is,
+                              (own _ _ _ _ huge_allocation_is (λ b a. refl), (by_its_ruling _ _ _ huge_reallocation_is, (own _ _ _ _ shift_is (λ b a. refl), (own _ _ _ _ avail_is (λ b a. refl), tt)))),
+                            ),
+                          ),
+                        ),
+                      ),
+                    ),
+                  ),
+                ),
+              ),
+            ),
+          ),
+        ),
+      ),
+    ),
+  ),
+)
+
+module _ (b : Before) where
+  served_any : RunsMayChange b → (service : ℕ) (next : ℕ) → AreOfAny b (serviced b service next).changes
+  served_any may service next =
+      by_service (λ (e : Effect). AreOfAny b e.changes) IsAnyRow b next any_rows tt tt
+      (λ r row a good. subst (AreOfAny b) (sym (changes_come r b next a (r.outcome b a))) (row.any b a may)) service
 
   answered_any : RunsMayChange b → (r : Result Machine Stop) → AreOfAny b (answered b r).changes
   answered_any may (Ok s) = tt
   answered_any may (Err (stop.Trap vector code)) = tt
-  answered_any may (Err (stop.Gate service next)) = served_any may (row_of service) next
+  answered_any may (Err (stop.Gate service next)) = served_any may service next
   answered_any may (Err (stop.Miss s)) = tt
 
+  either_step : (t : Bool) (e f : Effect) → AreOfAny b e.changes → AreOfAny b f.changes → AreOfAny b (cond t e f).changes
+  either_step true e f h k = h
+  either_step false e f h k = k
+
   single_any : (e : Effect) → AreOfAny b e.changes → AreOfAny b (single_stepped b e).changes
-  single_any e h = either (has_trap_flag b.cpu.flags && is_live e.state) _ e h h
+  single_any e h = either_step (has_trap_flag b.cpu.flags && is_live e.state) _ e h h
 
   pub effect_of_any : RunsMayChange b → AreOfAny b (effect b).changes
   unfolding effect

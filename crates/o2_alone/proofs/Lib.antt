@@ -4,6 +4,7 @@ pub mod RenamedRuns
 pub mod OwnReserves
 pub mod LoadsApart
 pub mod RenamedCalls
+pub mod RenamedRows
 pub mod RenamedSteps
 pub mod Unwritten
 pub mod OwnNames

@@ -1,40 +1,34 @@
 -- What a step that shares no segment changes, by names: each is one that its process holds, or the next one.
 use Rattle.std.proofs.Common.{◌≡◌, ◌⊎◌, inl, inr, refl, sym, ◌∙◌, subst, ℕ, zero, suc, ◌+◌, ◌-◌, ◌<◌, ◌≤◌, ◌/◌, ◌==◌, ◌&&◌, ◌||◌, Bool, true, false, cond, List, [], ◌∷◌, ◌++◌, filter, length, arith}
-use Rattle.std.specs.Prelude.{Option, Some, None, Result, Ok, Err, not, map, max, drop, is_some, nat_le, nat_lt, codes}
+use Rattle.std.specs.Prelude.{Option, Some, None, Result, Ok, Err, not, map, max, drop, is_some, nat_le, nat_lt}
 use Rattle.o2_desc.specs.Bits.{is_writable}
 use Rattle.o2_isa.specs.declared.cpu.Stop.{Stop}
 use Rattle.o2_isa.specs.declared.cpu.Stop.TheVariants as stop
 use Rattle.o2_isa.specs.Steps.{State as Machine, state}
 use Rattle.o2_isa.specs.Step.{stepped}
-use Rattle.o2_world.specs.declared.types.Argument.{Argument}
-use Rattle.o2_world.specs.declared.types.Argument.TheVariants.{Word, Far}
-use Rattle.o2_world.specs.declared.types.Row.{Row}
-use Rattle.o2_world.specs.declared.types.Row.TheVariants.{DosExit, DosGetPid, DosRead, DosWrite, DosMemAvail, OnSegments, OnShared, OnRuns}
-use Rattle.o2_world.specs.declared.types.SegmentCall.{SegmentCall}
-use Rattle.o2_world.specs.declared.types.SegmentCall.TheVariants.{DosAllocSeg, DosReallocSeg, DosFreeSeg, DosSizeSeg, DosLockSeg, DosUnlockSeg, DosCreateCsAlias}
-use Rattle.o2_world.specs.declared.types.HugeCall.{HugeCall}
-use Rattle.o2_world.specs.declared.types.HugeCall.TheVariants.{DosAllocHuge, DosReallocHuge, DosGetHugeShift}
 use Rattle.o2_world.specs.World.{ByAlias, ByCall, Cause, Held, is_live}
 use Rattle.o2_world.specs.Changes.{Change, Makes, Resizes, Locks, Marks, Holds, Drops, Finishes, Reserves, Frees, Names}
 use Rattle.o2_world.specs.Known.{Marks as SegmentMarks}
-use Rattle.o2_world.specs.CallParts.{Before, Effect, argument, has_arguments, may_write}
+use Rattle.o2_world.specs.declared.types.Slot.{Slot}
+use Rattle.o2_world.specs.CallParts.{Before, Effect, argument}
 use Rattle.o2_world.specs.Rulings.{Ruling, refusal, held_under, free_index, allocation, allocation_at, held_by_call, region_by, is_alias, is_in_run, full_size}
-use Rattle.o2_world.specs.Rulings.{reallocation_of, reallocation_with, keeps_its_size, members, indexes, is_later, in_use, by_load, freeing_of, sizing, sizing_of}
-use Rattle.o2_world.specs.Rulings.{sizing_with, is_discardable, locking_of, locking_with, unlocking_of, unlocking_with, aliasing, aliasing_of, aliasing_at}
-use Rattle.o2_world.specs.SegmentCalls.{ruled_at, Written, written_word, written_long, alloc_args, dos_alloc_seg, dos_realloc_seg, dos_free_seg, dos_size_seg, dos_lock_seg, dos_unlock_seg, dos_create_cs_alias, on_segments}
-use Rattle.o2_world.specs.Calls.{dos_exit, dos_get_pid, dos_mem_avail, dos_read, dos_write, served_by, row_of}
+use Rattle.o2_world.specs.Rulings.{reallocation_of, reallocation_with, keeps_its_size, members, indexes, is_later, in_use, by_load, freeing_of, sizing_of}
+use Rattle.o2_world.specs.Rulings.{sizing_with, is_discardable, locking_of, locking_with, unlocking_of, unlocking_with, aliasing_of, aliasing_at}
+use Rattle.o2_world.specs.Outcomes.{CallRow, Outcome, ruled}
+use Rattle.o2_world.specs.Calls.{aliasing_by, allocation_by, avail_by, freeing_by, huge_allocation_by, huge_reallocation_by, locking_by, reallocation_by, rows, serviced, shift_by, sizing_by, unlocking_by}
+use Rattle.o2_world.specs.RowLaws.{EachEntry, IsQuiet, changes_of}
+use Rattle.o2_world.proofs.Serving.{by_entry}
 use Rattle.o2_world.specs.Effect.{has_trap_flag, answered, single_stepped, effect}
-use Rattle.o2_world.proofs.Quiet.{exit_quiet, read_quiet, told_quiet, write_quiet}
+use Rattle.o2_world.proofs.Quiet.{changes_come, read_quiet, write_quiet}
 use Rattle.o2_world.specs.SharedRulings.{marks_under, shared_from}
 use Rattle.o2_world.specs.HugeRulings.{all_bytes, all_dropped, bytes_of, dropped_members, flags_in, free_run, held_in_run, huge_allocation, huge_at, huge_reallocation_of}
-use Rattle.o2_world.specs.HugeRulings.{huge_shift, is_first, is_huge_fault, left_in_run, new_members, other_shares, resized_members, resized_one, run_changes}
+use Rattle.o2_world.specs.HugeRulings.{is_first, is_huge_fault, left_in_run, new_members, other_shares, resized_members, resized_one, run_changes}
 use Rattle.o2_world.specs.HugeRulings.{run_resized, segments_of, sizes_of}
-use Rattle.o2_world.specs.HugeCalls.{dos_alloc_huge, dos_get_huge_shift, dos_realloc_huge, huge_args, on_runs}
 use Rattle.o2_world.specs.Moves.{Each}
 use Rattle.o2_world.proofs.SegmentMoves.{held_there, indexes_from, region_is}
 use Rattle.o2_alone.proofs.RenamedRuns.{no_other}
-use Rattle.o2_alone.specs.Renaming.{call_of, called_by, resized_run}
-use Rattle.o2_alone.specs.Keeping.{meets, reaches_shared}
+use Rattle.o2_alone.specs.Renaming.{Asking, asking_of, asks_members, asks_nothing, asks_others, asks_run, asks_segment, call_of, called_by, reaches_shared}
+use Rattle.o2_alone.specs.Keeping.{meets}
 
 pub indexes_to : (first n : ℕ) → Each (λ (j : ℕ). j < first + n) (indexes first n)
 indexes_to first zero = tt
@@ -114,35 +108,19 @@ AreOfOwn b [] = Unit {0}
 AreOfOwn b (c ∷ cs) = IsOfOwn b c × AreOfOwn b cs
 
 -- a call by which no segment is shared
-abbrev pub IsOwnRun : Before → HugeCall → Type 0
-IsOwnRun b DosAllocHuge = Unit {0}
-IsOwnRun b DosReallocHuge = reaches_shared (resized_run b) ≡ false
-IsOwnRun b DosGetHugeShift = Unit {0}
-
-abbrev pub IsUnshared : Before → Option Row → Type 0
+abbrev pub IsUnshared : Before → Option ℕ → Type 0
 IsUnshared b None = Unit {0}
-IsUnshared b (Some DosExit) = Unit {0}
-IsUnshared b (Some DosGetPid) = Unit {0}
-IsUnshared b (Some DosRead) = Unit {0}
-IsUnshared b (Some DosWrite) = Unit {0}
-IsUnshared b (Some DosMemAvail) = Unit {0}
-IsUnshared b (Some (OnSegments call)) = Unit {0}
-IsUnshared b (Some (OnShared call)) = ⊥
-IsUnshared b (Some (OnRuns call)) = IsOwnRun b call
+IsUnshared b (Some service) = (asking_of service).others b (argument b.view b.cpu) ≡ false
 
 -- one that tells nothing of other processes, and of which they can tell nothing, shares none
-pub quiet_unshared : (b : Before) (row : Option Row) → meets b row ≡ false → IsUnshared b row
+pub quiet_unshared : (b : Before) (call : Option ℕ) → meets b call ≡ false → IsUnshared b call
 quiet_unshared b None quiet = tt
-quiet_unshared b (Some DosExit) quiet = tt
-quiet_unshared b (Some DosGetPid) quiet = tt
-quiet_unshared b (Some DosRead) quiet = tt
-quiet_unshared b (Some DosWrite) quiet = tt
-quiet_unshared b (Some DosMemAvail) quiet = tt
-quiet_unshared b (Some (OnSegments call)) quiet = tt
-quiet_unshared b (Some (OnShared call)) quiet = cc
-quiet_unshared b (Some (OnRuns DosAllocHuge)) quiet = tt
-quiet_unshared b (Some (OnRuns DosReallocHuge)) quiet = quiet
-quiet_unshared b (Some (OnRuns DosGetHugeShift)) quiet = tt
+quiet_unshared b (Some service) quiet = second (asking_of service).input _ _ quiet
+  where
+    second : (x y z : Bool) → (x || (y || z)) ≡ false → y ≡ false
+    second true y z e = absurd (cc)
+    second false true z e = absurd (cc)
+    second false false z e = refl
 
 module _ (b : Before) where
   -- Rulings.
@@ -150,9 +128,6 @@ module _ (b : Before) where
   rules : (t : Bool) (r q : Ruling) → AreOfOwn b r.changes → (t ≡ false → AreOfOwn b q.changes) → AreOfOwn b (cond t r q).changes
   rules true r q h k = h
   rules false r q h k = k refl
-
-  abbrev Knows : ℕ → Held → Type 0
-  Knows index h = b.known.held b.number index ≡ Some h
 
   allocation_own : (size flags : ℕ) → AreOfOwn b (allocation b.known b.number size flags).changes
   allocation_own size flags = rules (nat_lt 15 flags) _ _ tt (λ _. rules (nat_le b.known.most b.known.count) _ _ tt (λ _. at_index (free_index b.known (region_by b.number flags))))
@@ -354,79 +329,129 @@ module _ (b : Before) where
           (λ _. rules ((nat_le shared_from h.first && nat_lt (bytes_of segs part) (all_bytes b.known b.number is)) || in_use b.cpu (drop (segments_of segs part) is)) _ _ tt
           (λ _. rules (nat_lt b.known.most (b.known.count + (segments_of segs part - length is)) || nat_lt (length is + length (left_in_run b.known b.number h)) (segments_of segs part)) _ _ tt (λ _. granted (in_run f)))))
 
-  -- Calls.
+-- Calls.
 
-  either : (t : Bool) (e f : Effect) → AreOfOwn b e.changes → AreOfOwn b f.changes → AreOfOwn b (cond t e f).changes
-  either true e f h k = h
-  either false e f h k = k
+pub record IsOwnRuling (asking : Asking) (ruling : Before → (ℕ → ℕ) → Ruling) : Type 0 where
+  pub own : (b : Before) (a : ℕ → ℕ) → RunsMayChange b → asking.others b a ≡ false → AreOfOwn b (ruling b a).changes
 
-  ruled_own : (next words : ℕ) (name : List ℕ) (args : List Argument) (t : Written) (r : Ruling) → AreOfOwn b r.changes → AreOfOwn b (ruled_at b next words name args t r).changes
-  ruled_own next words name args t r own = either (r.error == 0) _ _ own tt
+pub record IsOwnRow (asking : Asking) (r : CallRow) : Type 0 where
+  pub own : (b : Before) (a : ℕ → ℕ) → RunsMayChange b → asking.others b a ≡ false → AreOfOwn b (changes_of (r.outcome b a))
 
-  on_segments_own : (call : SegmentCall) (next : ℕ) → AreOfOwn b (on_segments call b next).changes
-  unfolding dos_alloc_seg dos_realloc_seg dos_free_seg dos_size_seg dos_lock_seg dos_unlock_seg dos_create_cs_alias
-  on_segments_own DosAllocSeg next =
-      let a : ℕ → ℕ = argument b.view b.cpu in
-      let r = allocation b.known b.number (a 3) (a 0) in
-      either (has_arguments b.view b.cpu 4) _ _ (either (may_write b.view (a 2) (a 1) 2) _ _ (ruled_own next 4 (codes "DosAllocSeg") (alloc_args (a 3) (a 2) (a 1) (a 0)) (written_word (a 2) (a 1) r.value) r (allocation_own (a 3) (a 0))) tt) tt
-  on_segments_own DosReallocSeg next =
-      let a : ℕ → ℕ = argument b.view b.cpu in
-      either (has_arguments b.view b.cpu 2) _ _ (realloc_own (a 1) (a 0) (held_under b.known b.number (a 0)) refl) tt
-  on_segments_own DosFreeSeg next =
-      let a : ℕ → ℕ = argument b.view b.cpu in
-      either (has_arguments b.view b.cpu 1) _ _ (free_own (a 0) (held_under b.known b.number (a 0))) tt
-  on_segments_own DosSizeSeg next =
-      let a : ℕ → ℕ = argument b.view b.cpu in
-      let r = sizing b.known b.number (a 2) in
-      either (has_arguments b.view b.cpu 3) _ _ (either (may_write b.view (a 1) (a 0) 4) _ _ (ruled_own next 3 (codes "DosSizeSeg") (Word (a 2) ∷ Far (a 1) (a 0) ∷ []) (written_long (a 1) (a 0) r.value) r (size_own (held_under b.known b.number (a 2)))) tt) tt
-  on_segments_own DosLockSeg next =
-      let a : ℕ → ℕ = argument b.view b.cpu in
-      either (has_arguments b.view b.cpu 1) _ _ (lock_own (a 0) (held_under b.known b.number (a 0)) refl) tt
-  on_segments_own DosUnlockSeg next =
-      let a : ℕ → ℕ = argument b.view b.cpu in
-      either (has_arguments b.view b.cpu 1) _ _ (unlock_own (a 0) (held_under b.known b.number (a 0)) refl) tt
-  on_segments_own DosCreateCsAlias next =
-      let a : ℕ → ℕ = argument b.view b.cpu in
-      let r = aliasing b.known b.number (a 2) in
-      either (has_arguments b.view b.cpu 3) _ _ (either (may_write b.view (a 1) (a 0) 2) _ _ (ruled_own next 3 (codes "DosCreateCSAlias") (Word (a 2) ∷ Far (a 1) (a 0) ∷ []) (written_word (a 1) (a 0) r.value) r (alias_own (a 2) (held_under b.known b.number (a 2)) refl)) tt) tt
+either : (b : Before) (t : Bool) (o q : Outcome) → AreOfOwn b (changes_of o) → AreOfOwn b (changes_of q) → AreOfOwn b (changes_of (cond t o q))
+either b true o q h k = h
+either b false o q h k = k
 
-  pub on_runs_own : RunsMayChange b → (call : HugeCall) (next : ℕ) → IsOwnRun b call → AreOfOwn b (on_runs call b next).changes
-  unfolding dos_alloc_huge dos_realloc_huge dos_get_huge_shift
-  on_runs_own may DosAllocHuge next own =
-      let a : ℕ → ℕ = argument b.view b.cpu in
-      let r = huge_allocation b.known b.number (a 5) (a 4) (a 1) (a 0) in
-      either (has_arguments b.view b.cpu 6) _ _
-      (either (may_write b.view (a 3) (a 2) 2) _ _ (ruled_own next 6 (codes "DosAllocHuge") (huge_args (a 5) (a 4) (a 3) (a 2) (a 1) (a 0)) (written_word (a 3) (a 2) r.value) r (huge_own (a 5) (a 4) (a 1) (a 0))) tt) tt
-  on_runs_own may DosReallocHuge next own =
-      let a : ℕ → ℕ = argument b.view b.cpu in
-      either (has_arguments b.view b.cpu 3) _ _ (resized_own may (a 2) (a 1) (a 0) (held_under b.known b.number (a 0)) refl own) tt
-  on_runs_own may DosGetHugeShift next own =
-      let a : ℕ → ℕ = argument b.view b.cpu in
-      either (has_arguments b.view b.cpu 2) _ _
-      (either (may_write b.view (a 1) (a 0) 2) _ _ (ruled_own next 2 (codes "DosGetHugeShift") (Far (a 1) (a 0) ∷ []) (written_word (a 1) (a 0) huge_shift) (record { error = 0; value = huge_shift; changes = [] }) tt) tt) tt
+by_its_ruling : (asking : Asking) (name : List ℕ) (ss : List Slot) (ruling : Before → (ℕ → ℕ) → Ruling) → IsOwnRuling asking ruling → IsOwnRow asking (ruled name ss ruling)
+by_its_ruling asking name ss ruling h = record { own = λ b a may alone. either b ((ruling b a).error == 0) _ _ (h.own b a may alone) tt }
 
-  nothing : (e : Effect) → e.changes ≡ [] → AreOfOwn b e.changes
-  nothing e is = subst (AreOfOwn b) (sym is) tt
+quiet : (asking : Asking) (r : CallRow) → IsQuiet r → IsOwnRow asking r
+quiet asking r none = record { own = λ b a may alone. subst (AreOfOwn b) (sym (none b a)) tt }
 
-  pub served_own : RunsMayChange b → (row : Option Row) (next : ℕ) → IsUnshared b row → AreOfOwn b (served_by row b next).changes
-  served_own may None next unshared = tt
-  served_own may (Some DosExit) next unshared = nothing (dos_exit b) (exit_quiet b)
-  served_own may (Some DosGetPid) next unshared = nothing (dos_get_pid b next) (told_quiet b next _ _ _)
-  served_own may (Some DosRead) next unshared = nothing (dos_read b next) (read_quiet b next)
-  served_own may (Some DosWrite) next unshared = nothing (dos_write b next) (write_quiet b next)
-  served_own may (Some DosMemAvail) next unshared = nothing (dos_mem_avail b next) (told_quiet b next _ _ _)
-  served_own may (Some (OnSegments call)) next unshared = on_segments_own call next
-  served_own may (Some (OnShared call)) next unshared = absurd unshared
-  served_own may (Some (OnRuns call)) next unshared = on_runs_own may call next unshared
+goes_by_others : (r : CallRow) → IsOwnRow asks_others r
+goes_by_others r = record { own = λ b a may alone. absurd (cc) }
+
+pub allocation_is : IsOwnRuling asks_segment allocation_by
+allocation_is = record { own = λ b a may alone. allocation_own b (a 3) (a 0) }
+
+pub reallocation_is : IsOwnRuling asks_nothing reallocation_by
+reallocation_is = record { own = λ b a may alone. realloc_own b (a 1) (a 0) (held_under b.known b.number (a 0)) refl }
+
+pub freeing_is : IsOwnRuling asks_nothing freeing_by
+freeing_is = record { own = λ b a may alone. free_own b (a 0) (held_under b.known b.number (a 0)) }
+
+pub sizing_is : IsOwnRuling asks_nothing sizing_by
+sizing_is = record { own = λ b a may alone. size_own b (held_under b.known b.number (a 2)) }
+
+pub locking_is : IsOwnRuling asks_nothing locking_by
+locking_is = record { own = λ b a may alone. lock_own b (a 0) (held_under b.known b.number (a 0)) refl }
+
+pub unlocking_is : IsOwnRuling asks_nothing unlocking_by
+unlocking_is = record { own = λ b a may alone. unlock_own b (a 0) (held_under b.known b.number (a 0)) refl }
+
+pub aliasing_is : IsOwnRuling asks_nothing aliasing_by
+aliasing_is = record { own = λ b a may alone. alias_own b (a 2) (held_under b.known b.number (a 2)) refl }
+
+pub huge_allocation_is : IsOwnRuling asks_run huge_allocation_by
+huge_allocation_is = record { own = λ b a may alone. huge_own b (a 5) (a 4) (a 1) (a 0) }
+
+huge_reallocation_is : IsOwnRuling asks_members huge_reallocation_by
+huge_reallocation_is = record { own = λ b a may alone. resized_own b may (a 2) (a 1) (a 0) (held_under b.known b.number (a 0)) refl alone }
+
+pub shift_is : IsOwnRuling asks_nothing shift_by
+shift_is = record { own = λ b a may alone. tt }
+
+pub avail_is : IsOwnRuling asks_nothing avail_by
+avail_is = record { own = λ b a may alone. tt }
+
+-- in the order of the table
+own_rows : EachEntry (λ (service : ℕ) (r : CallRow). IsOwnRow (asking_of service) r) rows
+unfolding asking_of
+own_rows = (
+  quiet _ _ (λ b a. refl),
+  (
+    quiet _ _ (λ b a. refl),
+    (
+      quiet _ _ read_quiet,
+      (
+        quiet _ _ write_quiet,
+        (
+          by_its_ruling _ _ _ _ allocation_is,
+          (
+            by_its_ruling _ _ _ _ reallocation_is,
+            (
+              by_its_ruling _ _ _ _ freeing_is,
+              (
+                by_its_ruling _ _ _ _ sizing_is,
+                (
+                  by_its_ruling _ _ _ _ locking_is,
+                  (
+                    by_its_ruling _ _ _ _ unlocking_is,
+                    (
+                      by_its_ruling _ _ _ _ aliasing_is,
+                      (
+                        goes_by_others _,
+                        (
+                          goes_by_others _,
+                          (
+                            goes_by_others _,
+                            (
+                              goes_by_others _,
+                              (by_its_ruling _ _ _ _ huge_allocation_is, (by_its_ruling _ _ _ _ huge_reallocation_is, (by_its_ruling _ _ _ _ shift_is, (by_its_ruling _ _ _ _ avail_is, tt)))),
+                            ),
+                          ),
+                        ),
+                      ),
+                    ),
+                  ),
+                ),
+              ),
+            ),
+          ),
+        ),
+      ),
+    ),
+  ),
+)
+
+module _ (b : Before) where
+  served_own : RunsMayChange b → (service : ℕ) (next : ℕ) → IsUnshared b (Some service) → AreOfOwn b (serviced b service next).changes
+  served_own may service next unshared =
+      by_entry (λ (e : Effect). AreOfOwn b e.changes) (λ (n : ℕ) (r : CallRow). IsOwnRow (asking_of n) r) b next own_rows tt tt service
+      (λ r row lies good.
+      subst (AreOfOwn b) (sym (changes_come r b next (argument b.view b.cpu) (r.outcome b (argument b.view b.cpu)))) (row.own b (argument b.view b.cpu) may unshared))
 
   answered_own : RunsMayChange b → (r : Result Machine Stop) → IsUnshared b (called_by r) → AreOfOwn b (answered b r).changes
   answered_own may (Ok s) unshared = tt
   answered_own may (Err (stop.Trap vector code)) unshared = tt
-  answered_own may (Err (stop.Gate service next)) unshared = served_own may (row_of service) next unshared
+  answered_own may (Err (stop.Gate service next)) unshared = served_own may service next unshared
   answered_own may (Err (stop.Miss s)) unshared = tt
 
+  either_step : (t : Bool) (e f : Effect) → AreOfOwn b e.changes → AreOfOwn b f.changes → AreOfOwn b (cond t e f).changes
+  either_step true e f h k = h
+  either_step false e f h k = k
+
   single_own : (e : Effect) → AreOfOwn b e.changes → AreOfOwn b (single_stepped b e).changes
-  single_own e h = either (has_trap_flag b.cpu.flags && is_live e.state) _ e h h
+  single_own e h = either_step (has_trap_flag b.cpu.flags && is_live e.state) _ e h h
 
   pub effect_of_own : RunsMayChange b → IsUnshared b (call_of b) → AreOfOwn b (effect b).changes
   unfolding effect

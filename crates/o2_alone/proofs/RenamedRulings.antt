@@ -1,7 +1,6 @@
 -- What the calls on segments come to by what is known, with other numbers for names: the same error, value and changes.
-use Rattle.std.proofs.Common.{◌≡◌, refl, ◌∙◌, ap, subst, ℕ, ◌%◌, ◌/◌, Bool, true, false, cond, ◌==◌, ◌&&◌, ◌||◌, List, [], ◌∷◌, ◌++◌}
+use Rattle.std.proofs.Common.{◌≡◌, refl, sym, ◌∙◌, ap, subst, ℕ, ◌%◌, ◌/◌, Bool, true, false, cond, ◌==◌, ◌||◌, List, [], ◌∷◌, ◌++◌, arith}
 use Rattle.std.specs.Prelude.{Option, Some, None, option_map, is_some, not, map, filter, flat_map, nat_le, nat_lt}
-use Rattle.std.specs.List.{list_any}
 use Rattle.std.proofs.lemmas.Bool.{eqb-true}
 use mathlib.Core.Path.{fun_ext}
 use Rattle.o2_base.specs.Selectors.{selector_of}
@@ -12,10 +11,12 @@ use Rattle.o2_world.specs.World.{Held, Line}
 use Rattle.o2_world.specs.Changes.{Change, Makes, Resizes, Locks, Marks, Holds, Drops, Finishes, Reserves, Frees, Names, hold_lines_of, drop_lines_of, in_order, moved_lines}
 use Rattle.o2_world.specs.Known.{Known, Marks as SegmentMarks}
 use Rattle.o2_world.specs.Rulings.{Ruling, refusal, grants, held_under, free_index, allocation, allocation_at, region_by, made_segment, held_by_call, is_alias, is_in_run}
-use Rattle.o2_world.specs.Rulings.{full_size, reallocation, reallocation_of, reallocation_with, keeps_its_size, members, indexes, is_later, is_index, in_use, by_load}
-use Rattle.o2_world.specs.Rulings.{is_last, freed_cpu, freeing, freeing_of, freeing_with, dropped_by, dropped_indexes, freeing_cpu, sizing, sizing_of, sizing_with}
+use Rattle.o2_world.specs.Rulings.{full_size, reallocation, reallocation_of, reallocation_with, keeps_its_size, members, indexes, is_later, in_use, by_load}
+use Rattle.o2_world.specs.Outcomes.{gone_by, gone_indexes, is_gone}
+use Rattle.o2_world.specs.Moves.{AllSpare, Spares}
+use Rattle.o2_world.specs.Rulings.{freeing, freeing_of, freeing_with, sizing, sizing_of, sizing_with}
 use Rattle.o2_world.specs.Rulings.{is_discardable, locking, locking_of, locking_with, unlocking, unlocking_of, unlocking_with, aliasing, aliasing_of, aliasing_at}
-use Rattle.o2_alone.specs.Renaming.{Renaming, renamed_held, renamed_change, renamed_changes, renamed_ruling, is_full, IsRenamedKnown}
+use Rattle.o2_alone.specs.Renaming.{Renaming, renamed_held, renamed_change, renamed_changes, renamed_ruling, is_full_for, IsRenamedKnown}
 
 -- Changes. Neither the lines nor the indexes that they tell have numbers of names.
 
@@ -43,18 +44,6 @@ renamed_drops f cause (Reserves r) = refl
 renamed_drops f cause (Frees region first) = refl
 renamed_drops f cause (Names text name) = refl
 
-renamed_dropped : (f : Renaming) (c : Change) (is : List ℕ) → dropped_by (renamed_change f c) is ≡ dropped_by c is
-renamed_dropped f (Makes s) is = refl
-renamed_dropped f (Resizes n size) is = refl
-renamed_dropped f (Locks n count) is = refl
-renamed_dropped f (Marks n discarded) is = refl
-renamed_dropped f (Holds p i h) is = refl
-renamed_dropped f (Drops p i count) is = refl
-renamed_dropped f (Finishes p state) is = refl
-renamed_dropped f (Reserves r) is = refl
-renamed_dropped f (Frees region first) is = refl
-renamed_dropped f (Names text name) is = refl
-
 flat_renamed : (f : Renaming) (lines : Change → List Line) → ((c : Change) → lines (renamed_change f c) ≡ lines c) → (cs : List Change)
     → flat_map lines (renamed_changes f cs) ≡ flat_map lines cs
 flat_renamed f lines same [] = refl
@@ -66,9 +55,30 @@ moved_renamed f cause cs =
     ap (λ (ls : List Line). in_order ls ++ in_order (flat_map (drop_lines_of cause) (renamed_changes f cs))) (flat_renamed f (hold_lines_of cause) (renamed_holds f cause) cs)
     ∙ ap (λ (ls : List Line). in_order (flat_map (hold_lines_of cause) cs) ++ in_order ls) (flat_renamed f (drop_lines_of cause) (renamed_drops f cause) cs)
 
-pub dropped_renamed : (f : Renaming) (cs : List Change) → dropped_indexes (renamed_changes f cs) ≡ dropped_indexes cs
-dropped_renamed f [] = refl
-dropped_renamed f (c ∷ cs) = renamed_dropped f c (dropped_indexes (renamed_changes f cs)) ∙ ap (dropped_by c) (dropped_renamed f cs)
+-- Nor do the indexes of which a process holds nothing any more.
+
+gone_same : (f : Renaming) (count : ℕ) (x : Option Held) → is_gone count (option_map (renamed_held f) x) ≡ is_gone count x
+gone_same f count None = refl
+gone_same f count (Some h) = refl
+
+renamed_gone : (f : Renaming) (n : ℕ) (k o : Known) → IsRenamedKnown f n k o → (c : Change) → Spares n c → (is : List ℕ) → gone_by o (renamed_change f c) is ≡ gone_by k c is
+renamed_gone f n k o same (Makes s) spares is = refl
+renamed_gone f n k o same (Resizes m size) spares is = refl
+renamed_gone f n k o same (Locks m count) spares is = refl
+renamed_gone f n k o same (Marks m discarded) spares is = refl
+renamed_gone f n k o same (Holds p i h) spares is = refl
+renamed_gone f n k o same (Drops p i count) own is =
+    subst (λ (q : ℕ). gone_by o (Drops q i count) is ≡ gone_by k (Drops q i count) is) (sym own)
+    (ap (λ (t : Bool). cond t (i ∷ is) is) (ap (is_gone count) (same.held i) ∙ gone_same f count (k.held n i)))
+renamed_gone f n k o same (Finishes p state) spares is = refl
+renamed_gone f n k o same (Reserves r) spares is = refl
+renamed_gone f n k o same (Frees region first) spares is = refl
+renamed_gone f n k o same (Names text name) spares is = refl
+
+pub gone_renamed : (f : Renaming) (n : ℕ) (k o : Known) → IsRenamedKnown f n k o → (cs : List Change) → AllSpare n cs → gone_indexes o (renamed_changes f cs) ≡ gone_indexes k cs
+gone_renamed f n k o same [] spares = refl
+gone_renamed f n k o same (c ∷ cs) spares =
+    renamed_gone f n k o same c spares.0 (gone_indexes o (renamed_changes f cs)) ∙ ap (gone_by k c) (gone_renamed f n k o same cs spares.1)
 
 drops_renamed : (f : Renaming) (n : ℕ) (is : List ℕ) → map (λ (i : ℕ). Drops n i 1) is ≡ renamed_changes f (map (λ (i : ℕ). Drops n i 1) is)
 drops_renamed f n [] = refl
@@ -124,7 +134,14 @@ free_by f n k o same flags shared = go (flags % 4 == 0) refl
 
 -- The rulings.
 
-pub allocation_renamed : (f : Renaming) (n : ℕ) (k o : Known) → IsRenamedKnown f n k o → (size flags : ℕ) → (nat_lt 15 flags ≡ false → is_full o ≡ is_full k)
+-- one more segment may not live
+abbrev is_full : Known → Bool
+is_full k = nat_le k.most k.count
+
+full_for_one : (k : Known) → is_full_for 1 k ≡ is_full k
+full_for_one k = grind arith
+
+pub allocation_renamed : (f : Renaming) (n : ℕ) (k o : Known) → IsRenamedKnown f n k o → (size flags : ℕ) → (nat_lt 15 flags ≡ false → is_full_for 1 o ≡ is_full_for 1 k)
     → (not (flags % 4 == 0) ≡ true → (i : ℕ) → o.taken 0 i ≡ k.taken 0 i) → allocation o n size flags ≡ renamed_ruling f (allocation k n size flags)
 allocation_renamed f n k o same size flags room shared = by_flags (nat_lt 15 flags) refl
   where
@@ -140,7 +157,7 @@ allocation_renamed f n k o same size flags room shared = by_flags (nat_lt 15 fla
         ≡ renamed_ruling f (cond b (refusal 87) (cond (is_full k) (refusal 8) (allocation_at k n size flags (free_index k (region_by n flags)))))
     by_flags true is = refl
     by_flags false is =
-        ap (λ (b : Bool). cond b (refusal 8) (allocation_at o n size flags (free_index o (region_by n flags)))) (room is)
+        ap (λ (b : Bool). cond b (refusal 8) (allocation_at o n size flags (free_index o (region_by n flags)))) (sym (full_for_one o) ∙ (room is ∙ full_for_one k))
         ∙ either f (is_full k) (refusal 8) (allocation_at k n size flags (free_index k (region_by n flags))) (refusal 8) (allocation_at o n size flags (free_index o (region_by n flags))) refl chooses
 
 pub reallocation_renamed : (f : Renaming) (n : ℕ) (k o : Known) → IsRenamedKnown f n k o → (size s : ℕ) → reallocation o n size s ≡ renamed_ruling f (reallocation k n size s)
@@ -160,10 +177,6 @@ pub is_some_renamed : (f : Renaming) (x : Option Held) → is_some (option_map (
 is_some_renamed f None = refl
 is_some_renamed f (Some h) = refl
 
-is_last_renamed : (f : Renaming) (x : Option Held) → is_last (option_map (renamed_held f) x) ≡ is_last x
-is_last_renamed f None = refl
-is_last_renamed f (Some h) = refl
-
 pub members_renamed : (f : Renaming) (n : ℕ) (k o : Known) → IsRenamedKnown f n k o → (index : ℕ) (h : Held) → members o n index (renamed_held f h) ≡ members k n index h
 members_renamed f n k o same index h =
     ap (λ (t : ℕ → Bool). cond (h.reserved == 0) (index ∷ []) (filter t (indexes h.first h.reserved)))
@@ -180,19 +193,6 @@ freeing_renamed f n k o same s c = by_held f n k o same s (freeing_of k n s c) (
     rules (Some h) marks =
         either f (by_load h.cause || is_later (s / 8) h) (refusal 5) (freeing_with n c (members k n (s / 8) h)) (refusal 5) (freeing_with n c (members o n (s / 8) (renamed_held f h))) refl
         (ap (freeing_with n c) (members_renamed f n k o same (s / 8) h) ∙ with_these (members k n (s / 8) h))
-
--- the registers where these indexes were freed, by which of them had their last hold
-abbrev freed_by : (ℕ → Bool) → List ℕ → Cpu → Cpu
-freed_by last is c = record c {
-  ds = cond (list_any (λ (i : ℕ). is_index c.ds i && last i) is) 0 c.ds;
-  es = cond (list_any (λ (i : ℕ). is_index c.es i && last i) is) 0 c.es;
-}
-
-pub freeing_cpu_renamed : (f : Renaming) (n : ℕ) (k o : Known) → IsRenamedKnown f n k o → (s : ℕ) (c : Cpu) → freeing_cpu o n s c ≡ freeing_cpu k n s c
-freeing_cpu_renamed f n k o same s c =
-    ap (λ (t : ℕ → Bool). freed_by t (dropped_indexes (freeing o n s c).changes) c) (fun_ext (λ (i : ℕ). ap is_last (same.held i) ∙ is_last_renamed f (k.held n i)))
-    ∙ ap (λ (is : List ℕ). freed_cpu k n is c)
-    (ap (λ (r : Ruling). dropped_indexes r.changes) (freeing_renamed f n k o same s c) ∙ dropped_renamed f (freeing k n s c).changes)
 
 pub sizing_renamed : (f : Renaming) (n : ℕ) (k o : Known) → IsRenamedKnown f n k o → (s : ℕ) → sizing o n s ≡ renamed_ruling f (sizing k n s)
 sizing_renamed f n k o same s = by_held f n k o same s (sizing_of k) (sizing_of o) rules

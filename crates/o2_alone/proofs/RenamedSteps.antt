@@ -9,15 +9,16 @@ use Rattle.o2_isa.specs.View.{Hold}
 use Rattle.o2_isa.specs.Steps.{State as Machine, state}
 use Rattle.o2_isa.specs.Step.{stepped}
 use Rattle.o2_isa.proofs.StepLaws.{stepped_frame}
-use Rattle.o2_world.specs.declared.types.Row.{Row}
 use Rattle.o2_world.specs.declared.types.State.{State}
 use Rattle.o2_world.specs.declared.types.State.TheVariants.{Trapped}
 use Rattle.o2_world.specs.World.{Line, Traps, is_live}
-use Rattle.o2_world.specs.Calls.{Before, Effect, row_of, served_by}
+use Rattle.o2_world.specs.CallParts.{Before, Effect}
+use Rattle.o2_world.specs.Calls.{serviced}
 use Rattle.o2_world.specs.Effect.{has_trap_flag, answered, single_stepped, effect}
-use Rattle.o2_alone.specs.Renaming.{Renaming, SameBytes, IsRenamed, IsRenamedResult, IsRenamedEffect, IsAskedAlike, called_by, call_of}
+use Rattle.o2_alone.specs.Renaming.{Renaming, SameBytes, IsRenamed, IsRenamedResult, IsRenamedEffect, IsAskedAlike, IsCalledAlike, called_by, call_of}
 use Rattle.o2_alone.proofs.RenamedViews.{stepped_renamed}
-use Rattle.o2_alone.proofs.RenamedCalls.{Twins, other, Does, either, trapped_renamed, served_renamed}
+use Rattle.o2_alone.proofs.RenamedCalls.{Twins, other, Does, either, trapped_renamed}
+use Rattle.o2_alone.proofs.RenamedRows.{served_renamed}
 
 -- the same process with the same registers
 abbrev pub twins_of : (f : Renaming) (b o : Before) → IsRenamed f b o → Twins
@@ -29,10 +30,10 @@ of_twin f b o same P p =
     subst (λ (n : ℕ). P (record { number = n; cpu = o.cpu; view = o.view; known = o.known; input = o.input })) (sym same.number)
     (subst (λ (c : Cpu). P (record { number = b.number; cpu = c; view = o.view; known = o.known; input = o.input })) (sym same.cpu) p)
 
-pub call_renamed : (f : Renaming) (row : Option Row) (b o : Before) (next : ℕ) → IsRenamed f b o → IsAskedAlike f row b o
-    → IsRenamedEffect f b o (served_by row b next) (served_by row o next)
-call_renamed f row b o next same =
-    of_twin f b o same (λ o. IsAskedAlike f row b o → IsRenamedEffect f b o (served_by row b next) (served_by row o next)) (served_renamed row (twins_of f b o same) next)
+pub call_renamed : (f : Renaming) (service : ℕ) (b o : Before) (next : ℕ) → IsRenamed f b o → IsCalledAlike f service b o
+    → IsRenamedEffect f b o (serviced b service next) (serviced o service next)
+call_renamed f service b o next same =
+    of_twin f b o same (λ (o : Before). IsCalledAlike f service b o → IsRenamedEffect f b o (serviced b service next) (serviced o service next)) (served_renamed service (twins_of f b o same) next)
 
 -- with exception 1 behind it
 abbrev trapped_behind : Before → Effect → Effect
@@ -69,7 +70,7 @@ answered_renamed t (Err d) (Err e) is same alike = subst (λ (e : Stop). Does t 
   where
     stops : (d : Stop) → IsAskedAlike t.names (called_by (Err d)) t.one (other t) → Does t (answered t.one (Err d)) (answered (other t) (Err d))
     stops (stop.Trap vector code) alike = trapped_renamed t vector
-    stops (stop.Gate service next) alike = served_renamed (row_of service) t next alike
+    stops (stop.Gate service next) alike = served_renamed service t next alike
     stops (stop.Miss s) alike = trapped_renamed t 11
 
 twin_steps : (t : Twins) → IsAskedAlike t.names (call_of t.one) t.one (other t) → Does t (effect t.one) (effect (other t))

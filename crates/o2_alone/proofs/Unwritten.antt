@@ -1,6 +1,6 @@
 -- A step writes no name but those that its process holds as data that can be written.
-use Rattle.std.proofs.Common.{◌≡◌, ◌≢◌, ◌⊎◌, inl, inr, refl, sym, ◌∙◌, ap, ℕ, ◌+◌, Bool, true, false, cond, ◌==◌, ◌&&◌, ◌||◌, List, [], ◌∷◌, ◌++◌, length, arith}
-use Rattle.std.specs.Prelude.{Option, Some, None, Result, Ok, Err, take, drop, nat_le, codes}
+use Rattle.std.proofs.Common.{◌≡◌, ◌≢◌, ◌⊎◌, inl, inr, refl, sym, ◌∙◌, ap, ℕ, ◌+◌, ◌≤◌, Bool, true, false, cond, ◌==◌, ◌&&◌, ◌||◌, List, [], ◌∷◌, ◌++◌, length, arith}
+use Rattle.std.specs.Prelude.{Option, Some, None, Result, Ok, Err, take, drop, nat_le}
 use Rattle.std.proofs.lemmas.Bool.{eqb-true}
 use Rattle.std.proofs.lemmas.List.{take-append-drop}
 use Rattle.o2_isa.specs.declared.cpu.Outcome.TheVariants as outcome
@@ -9,32 +9,20 @@ use Rattle.o2_isa.specs.declared.cpu.Stop.TheVariants as stop
 use Rattle.o2_isa.specs.declared.instr.Sreg.{Sreg}
 use Rattle.o2_isa.specs.Parts.{put_part}
 use Rattle.o2_isa.specs.View.{Hold, in_register, is_writable, bound_in}
-use Rattle.o2_isa.specs.Pointers.{is_for_es, has_range, is_good, put_in, put_at_pointer}
+use Rattle.o2_isa.specs.Pointers.{has_range, put_in, put_at_pointer}
 use Rattle.o2_isa.specs.Writes.{HoldsAsWritable}
 use Rattle.o2_isa.specs.Steps.{State as Machine, state}
 use Rattle.o2_isa.specs.Step.{stepped}
 use Rattle.o2_isa.proofs.Writes.{stepped_writes}
-use Rattle.o2_world.specs.declared.types.Argument.{Argument}
-use Rattle.o2_world.specs.declared.types.Argument.TheVariants.{Word, Far}
-use Rattle.o2_world.specs.declared.types.Transfer.{Transfer}
-use Rattle.o2_world.specs.declared.types.Row.{Row}
-use Rattle.o2_world.specs.declared.types.Row.TheVariants.{DosExit, DosGetPid, DosRead, DosWrite, DosMemAvail, OnSegments, OnShared, OnRuns}
-use Rattle.o2_world.specs.declared.types.SegmentCall.{SegmentCall}
-use Rattle.o2_world.specs.declared.types.SegmentCall.TheVariants.{DosAllocSeg, DosReallocSeg, DosFreeSeg, DosSizeSeg, DosLockSeg, DosUnlockSeg, DosCreateCsAlias}
-use Rattle.o2_world.specs.declared.types.SharedCall.{SharedCall}
-use Rattle.o2_world.specs.declared.types.SharedCall.TheVariants.{DosAllocShrSeg, DosGetShrSeg, DosGiveSeg, DosGetSeg}
-use Rattle.o2_world.specs.declared.types.HugeCall.{HugeCall}
-use Rattle.o2_world.specs.declared.types.HugeCall.TheVariants.{DosAllocHuge, DosReallocHuge, DosGetHugeShift}
 use Rattle.o2_world.specs.World.{is_live}
-use Rattle.o2_world.specs.CallParts.{Before, Effect, argument, has_arguments, word_bytes, may_write}
-use Rattle.o2_world.specs.Rulings.{Ruling, allocation, aliasing, sizing}
-use Rattle.o2_world.specs.SegmentCalls.{ruled_at, Written, written_word, written_long, alloc_args, dos_alloc_seg, dos_realloc_seg, dos_free_seg, dos_size_seg, dos_lock_seg, dos_unlock_seg, dos_create_cs_alias, on_segments}
-use Rattle.o2_world.specs.SharedNames.{may_read_text, name_by, text_at}
-use Rattle.o2_world.specs.SharedRulings.{giving, naming, sharing}
-use Rattle.o2_world.specs.SharedCalls.{dos_alloc_shr_seg, dos_get_shr_seg, dos_give_seg, dos_get_seg, give_args, name_args, on_shared}
-use Rattle.o2_world.specs.HugeRulings.{huge_allocation, huge_shift}
-use Rattle.o2_world.specs.HugeCalls.{dos_alloc_huge, dos_get_huge_shift, dos_realloc_huge, huge_args, on_runs}
-use Rattle.o2_world.specs.Calls.{transfer_of, is_console, may_give, dos_write, dos_exit, told, may_take, read_from, dos_read, served_by, row_of}
+use Rattle.o2_world.specs.CallParts.{Before, Effect}
+use Rattle.o2_world.specs.Slots.{Pointer, are_good, pointers_in, put_all, targets_in}
+use Rattle.o2_world.specs.Outcomes.{CallRow, Does, Fails, Leaves, Outcome, come_out}
+use Rattle.o2_world.specs.Calls.{serviced}
+use Rattle.o2_world.specs.RowLaws.{AreFitParts, IsFitOutcome, IsLawful}
+use Rattle.o2_world.proofs.Lawful.{lawful}
+use Rattle.o2_world.proofs.Serving.{by_service}
+use Rattle.o2_world.proofs.Sizes.{AllFit, fits, targets_fit}
 use Rattle.o2_world.specs.Effect.{has_trap_flag, answered, single_stepped, effect}
 use Rattle.o2_alone.specs.Renaming.{IsIn}
 use Rattle.o2_alone.proofs.RenamedViews.{bound_is_in}
@@ -42,10 +30,6 @@ use Rattle.o2_alone.proofs.RenamedViews.{bound_is_in}
 -- the process holds the name only as what can't be written
 abbrev pub IsUnwritten : (ℕ → Option Hold) → ℕ → Type 0
 IsUnwritten held n = (h : Hold) → IsIn held h → is_writable h.rights ≡ true → h.name ≢ n
-
-both : (a b : Bool) → (a && b) ≡ true → (a ≡ true) × (b ≡ true)
-both true b e = (refl, e)
-both false b e = absurd (cc)
 
 nothing_between : (xs ys : List ℕ) → xs ++ [] ++ ys ≡ xs ++ ys
 nothing_between [] ys = refl
@@ -79,125 +63,34 @@ module _ (b : Before) (n : ℕ) (unwritten : IsUnwritten b.view.held n) where
   abbrev Keeps : Effect → Type 0
   Keeps e = e.bytes n ≡ b.view.bytes n
 
-  pointer : (bytes : ℕ → List ℕ) (s offset count : ℕ) (part : List ℕ) → may_write b.view s offset count ≡ true → ((count == 0) ≡ true → part ≡ [])
+  pointer : (bytes : ℕ → List ℕ) (s offset count : ℕ) (part : List ℕ) → fits b.view.held b.view.bytes s offset count ≡ true → ((count == 0) ≡ true → part ≡ [])
       → put_at_pointer b.view.held bytes s offset part n ≡ bytes n
-  unfolding is_good put_at_pointer
-  pointer bytes s offset count part good none = put_elsewhere b.view.held bytes b.view.bytes s offset count part n (is_for_es b.view s) unwritten good none
+  unfolding put_at_pointer
+  pointer bytes s offset count part good none = put_elsewhere b.view.held bytes b.view.bytes s offset count part n true unwritten good none
 
   by_test : (t : Bool) (e f : Effect) → (t ≡ true → Keeps e) → Keeps f → Keeps (cond t e f)
   by_test true e f h k = h refl
   by_test false e f h k = k
 
-  none_in : (part : List ℕ) → (length part == 0) ≡ true → part ≡ []
-  none_in [] e = refl
-  none_in (x ∷ xs) e = absurd (let no : length (x ∷ xs) ≡ 0 = grind arith in omega (arith, no))
+  none_in : (part : List ℕ) (count : ℕ) → length part ≤ count → (count == 0) ≡ true → part ≡ []
+  none_in [] count few e = refl
+  none_in (x ∷ xs) count few e = absurd (let none : count ≡ 0 = eqb-true count 0 e in omega (arith, few, none))
 
-  no_take : (k : ℕ) (xs : List ℕ) → (k == 0) ≡ true → take k xs ≡ []
-  no_take k xs e = ap (λ (i : ℕ). take i xs) (eqb-true k 0 e)
+  put_all_keeps : (ps : List Pointer) (parts : List (List ℕ)) (bytes : ℕ → List ℕ) → AllFit b.view.held b.view.bytes ps → AreFitParts ps parts
+      → put_all b.view.held ps parts bytes n ≡ bytes n
+  put_all_keeps [] parts bytes all few = refl
+  put_all_keeps (p ∷ ps) [] bytes all few = refl
+  put_all_keeps (p ∷ ps) (part ∷ parts) bytes all few =
+      put_all_keeps ps parts (put_at_pointer b.view.held bytes p.selector p.offset part) all.1 few.1
+      ∙ pointer bytes p.selector p.offset p.count part all.0 (none_in part p.count few.0)
 
-  told_keeps : (next : ℕ) (name part : List ℕ) (values : List Argument) → Keeps (told b next name part values)
-  unfolding told
-  told_keeps next name part values =
-      let a : ℕ → ℕ = argument b.view b.cpu in
-      by_test (has_arguments b.view b.cpu 2) _ _ (λ _. by_test (may_write b.view (a 1) (a 0) (length part)) _ _ (λ good. pointer b.view.bytes (a 1) (a 0) (length part) part good (none_in part)) refl) refl
+  come_keeps : (r : CallRow) (next : ℕ) (a : ℕ → ℕ) → are_good b.view (pointers_in r.slots b.view a) ≡ true → (o : Outcome) → IsFitOutcome (targets_in r.slots a) o → Keeps (come_out r b next a o)
+  come_keeps r next a good (Fails error values) few = refl
+  come_keeps r next a good (Does d) few = put_all_keeps (targets_in r.slots a) d.parts b.view.bytes (targets_fit b.view r.slots a good) few
+  come_keeps r next a good (Leaves action code) few = refl
 
-  write_keeps : (next : ℕ) → Keeps (dos_write b next)
-  unfolding dos_write
-  write_keeps next =
-      let t = transfer_of (argument b.view b.cpu) in
-      by_test (has_arguments b.view b.cpu 6) _ _
-      (λ _. by_test (may_give b t) _ _
-      (λ good. by_test (is_console t.handle) _ _ (λ _. pointer b.view.bytes t.done_selector t.done_offset 2 (word_bytes t.count) (both _ _ good).1 (λ z. absurd (cc))) refl) refl) refl
-
-  read_keeps : (next : ℕ) → Keeps (dos_read b next)
-  unfolding dos_read
-  read_keeps next = by_test (has_arguments b.view b.cpu 6) _ _ (λ _. reads (transfer_of (argument b.view b.cpu))) refl
-    where
-      good_both : (t : Transfer) → may_take b t ≡ true → (may_write b.view t.selector t.offset t.count ≡ true) × (may_write b.view t.done_selector t.done_offset 2 ≡ true)
-      good_both t good = both (may_write b.view t.selector t.offset t.count) (may_write b.view t.done_selector t.done_offset 2) good
-
-      reads : (t : Transfer) → Keeps (read_from b next t)
-      reads t =
-          let got = take t.count b.input in
-          by_test (may_take b t) _ _
-          (λ good. by_test (t.handle == 0) _ _
-          (λ _. pointer (put_at_pointer b.view.held b.view.bytes t.selector t.offset got) t.done_selector t.done_offset 2 (word_bytes (length got)) (good_both t good).1 (λ z. absurd (cc))
-          ∙ pointer b.view.bytes t.selector t.offset t.count got (good_both t good).0 (no_take t.count b.input)) refl) refl
-
-  exit_keeps : Keeps (dos_exit b)
-  unfolding dos_exit
-  exit_keeps = by_test (has_arguments b.view b.cpu 2) _ _ (λ _. refl) refl
-
-  ruled_keeps : (next words : ℕ) (name : List ℕ) (args : List Argument) (t : Written) (r : Ruling) → may_write b.view t.selector t.offset (length t.part) ≡ true
-      → Keeps (ruled_at b next words name args t r)
-  ruled_keeps next words name args t r good = by_test (r.error == 0) _ _ (λ _. pointer b.view.bytes t.selector t.offset (length t.part) t.part good (none_in t.part)) refl
-
-  on_segments_keeps : (call : SegmentCall) (next : ℕ) → Keeps (on_segments call b next)
-  unfolding dos_alloc_seg dos_realloc_seg dos_free_seg dos_size_seg dos_lock_seg dos_unlock_seg dos_create_cs_alias
-  on_segments_keeps DosAllocSeg next =
-      let a : ℕ → ℕ = argument b.view b.cpu in
-      let r = allocation b.known b.number (a 3) (a 0) in
-      by_test (has_arguments b.view b.cpu 4) _ _ (λ _. by_test (may_write b.view (a 2) (a 1) 2) _ _ (λ good. ruled_keeps next 4 (codes "DosAllocSeg") (alloc_args (a 3) (a 2) (a 1) (a 0)) (written_word (a 2) (a 1) r.value) r good) refl) refl
-  on_segments_keeps DosReallocSeg next = by_test (has_arguments b.view b.cpu 2) _ _ (λ _. refl) refl
-  on_segments_keeps DosFreeSeg next = by_test (has_arguments b.view b.cpu 1) _ _ (λ _. refl) refl
-  on_segments_keeps DosSizeSeg next =
-      let a : ℕ → ℕ = argument b.view b.cpu in
-      let r = sizing b.known b.number (a 2) in
-      by_test (has_arguments b.view b.cpu 3) _ _ (λ _. by_test (may_write b.view (a 1) (a 0) 4) _ _ (λ good. ruled_keeps next 3 (codes "DosSizeSeg") (Word (a 2) ∷ Far (a 1) (a 0) ∷ []) (written_long (a 1) (a 0) r.value) r good) refl) refl
-  on_segments_keeps DosLockSeg next = by_test (has_arguments b.view b.cpu 1) _ _ (λ _. refl) refl
-  on_segments_keeps DosUnlockSeg next = by_test (has_arguments b.view b.cpu 1) _ _ (λ _. refl) refl
-  on_segments_keeps DosCreateCsAlias next =
-      let a : ℕ → ℕ = argument b.view b.cpu in
-      let r = aliasing b.known b.number (a 2) in
-      by_test (has_arguments b.view b.cpu 3) _ _ (λ _. by_test (may_write b.view (a 1) (a 0) 2) _ _ (λ good. ruled_keeps next 3 (codes "DosCreateCSAlias") (Word (a 2) ∷ Far (a 1) (a 0) ∷ []) (written_word (a 1) (a 0) r.value) r good) refl) refl
-
-  on_shared_keeps : (call : SharedCall) (next : ℕ) → Keeps (on_shared call b next)
-  unfolding dos_alloc_shr_seg dos_get_shr_seg dos_give_seg dos_get_seg
-  on_shared_keeps DosAllocShrSeg next =
-      let a : ℕ → ℕ = argument b.view b.cpu in
-      let r = naming b.known b.number (a 4) (name_by (text_at b.view (a 3) (a 2))) in
-      by_test (has_arguments b.view b.cpu 5) _ _
-      (λ _. by_test (may_read_text b.view (a 3) (a 2) && may_write b.view (a 1) (a 0) 2) _ _
-      (λ good. ruled_keeps next 5 (codes "DosAllocShrSeg") (name_args (a 4) (a 3) (a 2) (a 1) (a 0)) (written_word (a 1) (a 0) r.value) r (both _ _ good).1) refl) refl
-  on_shared_keeps DosGetShrSeg next =
-      let a : ℕ → ℕ = argument b.view b.cpu in
-      let r = sharing b.known b.number (name_by (text_at b.view (a 3) (a 2))) in
-      by_test (has_arguments b.view b.cpu 4) _ _
-      (λ _. by_test (may_read_text b.view (a 3) (a 2) && may_write b.view (a 1) (a 0) 2) _ _
-      (λ good. ruled_keeps next 4 (codes "DosGetShrSeg") (Far (a 3) (a 2) ∷ Far (a 1) (a 0) ∷ []) (written_word (a 1) (a 0) r.value) r (both _ _ good).1) refl) refl
-  on_shared_keeps DosGiveSeg next =
-      let a : ℕ → ℕ = argument b.view b.cpu in
-      let r = giving b.known b.number (a 3) (a 2) in
-      by_test (has_arguments b.view b.cpu 4) _ _
-      (λ _. by_test (may_write b.view (a 1) (a 0) 2) _ _
-      (λ good. ruled_keeps next 4 (codes "DosGiveSeg") (give_args (a 3) (a 2) (a 1) (a 0)) (written_word (a 1) (a 0) r.value) r good) refl) refl
-  on_shared_keeps DosGetSeg next = by_test (has_arguments b.view b.cpu 1) _ _ (λ _. refl) refl
-
-  on_runs_keeps : (call : HugeCall) (next : ℕ) → Keeps (on_runs call b next)
-  unfolding dos_alloc_huge dos_realloc_huge dos_get_huge_shift
-  on_runs_keeps DosAllocHuge next =
-      let a : ℕ → ℕ = argument b.view b.cpu in
-      let r = huge_allocation b.known b.number (a 5) (a 4) (a 1) (a 0) in
-      by_test (has_arguments b.view b.cpu 6) _ _
-      (λ _. by_test (may_write b.view (a 3) (a 2) 2) _ _
-      (λ good. ruled_keeps next 6 (codes "DosAllocHuge") (huge_args (a 5) (a 4) (a 3) (a 2) (a 1) (a 0)) (written_word (a 3) (a 2) r.value) r good) refl) refl
-  on_runs_keeps DosReallocHuge next = by_test (has_arguments b.view b.cpu 3) _ _ (λ _. refl) refl
-  on_runs_keeps DosGetHugeShift next =
-      let a : ℕ → ℕ = argument b.view b.cpu in
-      by_test (has_arguments b.view b.cpu 2) _ _
-      (λ _. by_test (may_write b.view (a 1) (a 0) 2) _ _
-      (λ good. ruled_keeps next 2 (codes "DosGetHugeShift") (Far (a 1) (a 0) ∷ []) (written_word (a 1) (a 0) huge_shift) (record { error = 0; value = huge_shift; changes = [] }) good) refl) refl
-
-  served_keeps : (row : Option Row) (next : ℕ) → Keeps (served_by row b next)
-  served_keeps None next = refl
-  served_keeps (Some DosExit) next = exit_keeps
-  served_keeps (Some DosGetPid) next = told_keeps next _ _ _
-  served_keeps (Some DosRead) next = read_keeps next
-  served_keeps (Some DosWrite) next = write_keeps next
-  served_keeps (Some DosMemAvail) next = told_keeps next _ _ _
-  served_keeps (Some (OnSegments call)) next = on_segments_keeps call next
-  served_keeps (Some (OnShared call)) next = on_shared_keeps call next
-  served_keeps (Some (OnRuns call)) next = on_runs_keeps call next
+  served_keeps : (service : ℕ) (next : ℕ) → Keeps (serviced b service next)
+  served_keeps service next = by_service Keeps IsLawful b next lawful refl refl (λ r law a good. come_keeps r next a good (r.outcome b a) (law.fits b a)) service
 
   single_keeps : (e : Effect) → Keeps e → Keeps (single_stepped b e)
   single_keeps e k = by_test (has_trap_flag b.cpu.flags && is_live e.state) _ e (λ _. k) k
@@ -210,7 +103,7 @@ module _ (b : Before) (n : ℕ) (unwritten : IsUnwritten b.view.held n) where
         by_write (inl same) = same
         by_write (inr held) = absurd (unwritten held.hold (bound held.register held.hold held.there) held.writable held.named)
     answered_keeps (Err (stop.Trap vector code)) e = refl
-    answered_keeps (Err (stop.Gate service next)) e = served_keeps (row_of service) next
+    answered_keeps (Err (stop.Gate service next)) e = served_keeps service next
     answered_keeps (Err (stop.Miss s)) e = refl
 
     pub effect_keeps : (effect b).bytes n ≡ b.view.bytes n

@@ -1,21 +1,15 @@
 -- When a process keeps to itself: neither does it come to what other processes have, nor they to what it has.
-use Rattle.std.specs.Prelude.{◌≡◌, ◌≢◌, ◌⊎◌, ℕ, ◌<◌, Bool, true, false, Option, Some, None, ◌&&◌}
+use Rattle.std.specs.Prelude.{◌≡◌, ◌≢◌, ◌⊎◌, ℕ, ◌<◌, Bool, true, false, Option, Some, None, ◌||◌}
 use Rattle.std.specs.List.{list_any}
-use Rattle.o2_world.specs.declared.types.Row.{Row}
-use Rattle.o2_world.specs.declared.types.Row.TheVariants.{DosExit, DosGetPid, DosRead, DosWrite, DosMemAvail, OnSegments, OnShared, OnRuns}
-use Rattle.o2_world.specs.declared.types.SegmentCall.{SegmentCall}
-use Rattle.o2_world.specs.declared.types.SegmentCall.TheVariants.{DosAllocSeg, DosReallocSeg, DosFreeSeg, DosSizeSeg, DosLockSeg, DosUnlockSeg, DosCreateCsAlias}
-use Rattle.o2_world.specs.declared.types.HugeCall.{HugeCall}
-use Rattle.o2_world.specs.declared.types.HugeCall.TheVariants.{DosAllocHuge, DosReallocHuge, DosGetHugeShift}
 use Rattle.o2_world.specs.Map.{get}
 use Rattle.o2_world.specs.World.{World, Setting, Segment, Held}
-use Rattle.o2_world.specs.Known.{held_at}
-use Rattle.o2_world.specs.CallParts.{Before}
+use Rattle.o2_world.specs.Known.{Known, held_at}
+use Rattle.o2_world.specs.CallParts.{Before, argument}
 use Rattle.o2_world.specs.Effect.{effect}
 use Rattle.o2_world.specs.Run.{after}
 use Rattle.o2_world.specs.Giving.{gives}
 use Rattle.o2_alone.specs.Events.{next_before, own_steps}
-use Rattle.o2_alone.specs.Renaming.{asks_for_members_of, asks_for_room, asks_for_run, call_of, is_for_others, is_full, is_full_for, is_shared_run, new_segments, resized_run, run_segments}
+use Rattle.o2_alone.specs.Renaming.{Asking, asked, asking_of, call_of, is_full_for}
 
 -- What it holds.
 
@@ -39,72 +33,27 @@ IsUngiven s w number = (b : Before) → next_before s w ≡ Some b → b.number 
 
 -- What it calls.
 
--- a call that tells of other processes, or that they can tell: of the input that all read, or of the region that all share, which
--- a segment for others (flags 1 and 2) has a selector of
-abbrev pub meets_by : Before → SegmentCall → Bool
-meets_by b DosAllocSeg = is_for_others b
-meets_by b DosReallocSeg = false
-meets_by b DosFreeSeg = false
-meets_by b DosSizeSeg = false
-meets_by b DosLockSeg = false
-meets_by b DosUnlockSeg = false
-meets_by b DosCreateCsAlias = false
+-- a call that tells of other processes, or that they can tell: of the input that all read, of what they hold, or of the region that
+-- all share, which a segment for others (flags 1 and 2) has a selector of
+abbrev pub meets_by : Asking → Before → (ℕ → ℕ) → Bool
+meets_by asking b a = asking.input || (asking.others b a || asking.region a)
 
--- a run with indexes of that region is resized
-abbrev pub reaches_shared : Option Held → Bool
-reaches_shared None = false
-reaches_shared (Some h) = is_shared_run h
-
-abbrev pub meets_by_run : Before → HugeCall → Bool
-meets_by_run b DosAllocHuge = is_for_others b
-meets_by_run b DosReallocHuge = reaches_shared (resized_run b)
-meets_by_run b DosGetHugeShift = false
-
-abbrev pub meets : Before → Option Row → Bool
+abbrev pub meets : Before → Option ℕ → Bool
 meets b None = false
-meets b (Some DosExit) = false
-meets b (Some DosGetPid) = false
-meets b (Some DosRead) = true
-meets b (Some DosWrite) = false
-meets b (Some DosMemAvail) = false
-meets b (Some (OnSegments call)) = meets_by b call
-meets b (Some (OnShared call)) = true
-meets b (Some (OnRuns call)) = meets_by_run b call
+meets b (Some service) = meets_by (asking_of service) b (argument b.view b.cpu)
 
 -- where the next step is its own, it makes no such call
 abbrev pub IsQuiet : Setting → World → (number : ℕ) → Type 0
 IsQuiet s w number = (b : Before) → next_before s w ≡ Some b → b.number ≡ number → meets b (call_of b) ≡ false
 
--- a DosAllocSeg is answered 8, as no more segments may live
-abbrev pub lacks_by : Before → SegmentCall → Bool
-lacks_by b DosAllocSeg = asks_for_room b && is_full b.known
-lacks_by b DosReallocSeg = false
-lacks_by b DosFreeSeg = false
-lacks_by b DosSizeSeg = false
-lacks_by b DosLockSeg = false
-lacks_by b DosUnlockSeg = false
-lacks_by b DosCreateCsAlias = false
+-- a call is answered 8, as so many more segments may not live
+abbrev pub lacks : Known → Option ℕ → Bool
+lacks k None = false
+lacks k (Some n) = is_full_for n k
 
--- a call on a huge allocation too
-abbrev pub lacks_members : Before → Option Held → Bool
-lacks_members b None = false
-lacks_members b (Some h) = asks_for_members_of b h && is_full_for (new_segments b h) b.known
-
-abbrev pub lacks_by_run : Before → HugeCall → Bool
-lacks_by_run b DosAllocHuge = asks_for_run b && is_full_for (run_segments b) b.known
-lacks_by_run b DosReallocHuge = lacks_members b (resized_run b)
-lacks_by_run b DosGetHugeShift = false
-
-abbrev pub lacks_room : Before → Option Row → Bool
+abbrev pub lacks_room : Before → Option ℕ → Bool
 lacks_room b None = false
-lacks_room b (Some DosExit) = false
-lacks_room b (Some DosGetPid) = false
-lacks_room b (Some DosRead) = false
-lacks_room b (Some DosWrite) = false
-lacks_room b (Some DosMemAvail) = false
-lacks_room b (Some (OnSegments call)) = lacks_by b call
-lacks_room b (Some (OnShared call)) = false
-lacks_room b (Some (OnRuns call)) = lacks_by_run b call
+lacks_room b (Some service) = lacks b.known (asked b service)
 
 -- where the next step is its own, no call is answered so
 abbrev pub HasRoom : Setting → World → (number : ℕ) → Type 0

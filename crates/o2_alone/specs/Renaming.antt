@@ -1,6 +1,6 @@
 -- Other numbers for names. What a step does goes by what its process holds, by the bytes and marks of that, and by which indexes are taken,
 -- and not by the numbers that its segments have in the world.
-use Rattle.std.specs.Prelude.{◌≡◌, ℕ, ◌+◌, ◌-◌, ◌/◌, ◌%◌, ◌==◌, ◌&&◌, ◌||◌, Bool, true, false, not, nat_le, nat_lt, List, length, drop, map, Option, Some, None, option_map, Result, Ok, Err}
+use Rattle.std.specs.Prelude.{◌≡◌, ℕ, ◌+◌, ◌-◌, ◌/◌, ◌%◌, ◌==◌, ◌&&◌, ◌||◌, Bool, true, false, not, if◌then◌else◌, nat_le, nat_lt, List, [], ◌∷◌, length, drop, map, Option, Some, None, option_map, Result, Ok, Err}
 use Rattle.o2_isa.specs.declared.cpu.Cpu.{Cpu}
 use Rattle.o2_isa.specs.declared.cpu.Stop.{Stop}
 use Rattle.o2_isa.specs.declared.cpu.Stop.TheVariants as stop
@@ -8,16 +8,13 @@ use Rattle.o2_isa.specs.declared.instr.Sreg.{Sreg}
 use Rattle.o2_isa.specs.View.{View, Hold, in_register}
 use Rattle.o2_isa.specs.Steps.{State as Machine, state}
 use Rattle.o2_isa.specs.Step.{stepped}
-use Rattle.o2_world.specs.declared.types.Row.{Row}
-use Rattle.o2_world.specs.declared.types.Row.TheVariants.{DosExit, DosGetPid, DosRead, DosWrite, DosMemAvail, OnSegments, OnShared, OnRuns}
-use Rattle.o2_world.specs.declared.types.SegmentCall.{SegmentCall}
-use Rattle.o2_world.specs.declared.types.SegmentCall.TheVariants.{DosAllocSeg, DosReallocSeg, DosFreeSeg, DosSizeSeg, DosLockSeg, DosUnlockSeg, DosCreateCsAlias}
-use Rattle.o2_world.specs.declared.types.HugeCall.{HugeCall}
-use Rattle.o2_world.specs.declared.types.HugeCall.TheVariants.{DosAllocHuge, DosReallocHuge, DosGetHugeShift}
+use Rattle.o2_world.specs.Map.{get}
 use Rattle.o2_world.specs.World.{Held}
 use Rattle.o2_world.specs.Changes.{Change, Makes, Resizes, Locks, Marks, Holds, Drops, Finishes, Reserves, Frees, Names}
 use Rattle.o2_world.specs.Known.{Known}
-use Rattle.o2_world.specs.CallParts.{Before, Effect, argument, has_arguments, may_write}
+use Rattle.o2_world.specs.CallParts.{Before, Effect, argument, has_arguments}
+use Rattle.o2_world.specs.Slots.{are_good, pointers_in, words_in}
+use Rattle.o2_world.specs.Outcomes.{CallRow}
 use Rattle.o2_world.specs.Calls.{row_of}
 use Rattle.o2_world.specs.Rulings.{Ruling, held_under, in_use, is_in_run, members}
 use Rattle.o2_world.specs.SharedRulings.{shared_from}
@@ -90,36 +87,8 @@ pub record IsRenamed (f : Renaming) (b other : Before) : Type 0 where
   pub view : IsRenamedView f b.view other.view
   pub known : IsRenamedKnown f b.number b.known other.known
 
--- What a call reads beside that: the input, whether one more segment may live, and the region that all share.
-
--- a DosAllocSeg comes to the question whether one more segment may live: its arguments, its pointer and its flags are good
-abbrev pub asks_for_room : Before → Bool
-asks_for_room b =
-    let a : ℕ → ℕ = argument b.view b.cpu in
-    has_arguments b.view b.cpu 4 && (may_write b.view (a 2) (a 1) 2 && not (nat_lt 15 (a 0)))
-
--- no more segments may live
-abbrev pub is_full : Known → Bool
-is_full k = nat_le k.most k.count
-
--- the flags of a DosAllocSeg are those of a segment that can be given or got, which has an index of the region that all share
-abbrev pub is_for_others : Before → Bool
-is_for_others b = not (argument b.view b.cpu 0 % 4 == 0)
-
-pub record MakesAlike (b other : Before) : Type 0 where
-  pub room : asks_for_room b ≡ true → is_full other.known ≡ is_full b.known
-  pub shared : is_for_others b ≡ true → (i : ℕ) → other.known.taken 0 i ≡ b.known.taken 0 i
-
-abbrev pub IsRuledAlike : SegmentCall → Before → Before → Type 0
-IsRuledAlike DosAllocSeg b other = MakesAlike b other
-IsRuledAlike DosReallocSeg b other = Unit {0}
-IsRuledAlike DosFreeSeg b other = Unit {0}
-IsRuledAlike DosSizeSeg b other = Unit {0}
-IsRuledAlike DosLockSeg b other = Unit {0}
-IsRuledAlike DosUnlockSeg b other = Unit {0}
-IsRuledAlike DosCreateCsAlias b other = Unit {0}
-
--- Huge allocations.
+-- What a call goes by beside that: the input, what other processes hold, the region that all share, and whether so many more segments
+-- may live.
 
 -- names that come one after the other are numbered so in both
 abbrev pub AreNumberedAlike : Renaming → (k other : Known) → Type 0
@@ -129,21 +98,48 @@ AreNumberedAlike f k other = (j : ℕ) → other.next + j ≡ f (k.next + j)
 abbrev pub is_full_for : (count : ℕ) → Known → Bool
 is_full_for count k = nat_lt k.most (k.count + count)
 
--- a DosAllocHuge comes to the question whether so many more segments may live: its arguments, its pointer, its sizes and its flags are good
-abbrev pub asks_for_run : Before → Bool
-asks_for_run b =
-    let a : ℕ → ℕ = argument b.view b.cpu in
-    has_arguments b.view b.cpu 6 && (may_write b.view (a 3) (a 2) 2 && not (is_huge_fault (segments_of (a 5) (a 4)) (a 1) (a 0)))
+-- by the words of the call
+pub record Asking : Type 0 where
+  -- the input
+  pub input : Bool
+  -- what other processes hold, or what they can tell
+  pub others : Before → (ℕ → ℕ) → Bool
+  -- which indexes of the region that all share are taken
+  pub region : (ℕ → ℕ) → Bool
+  -- it may make more than one segment
+  pub many : Bool
+  -- for how many more segments it asks, where all conditions that come first are met
+  pub segments : Before → (ℕ → ℕ) → Option ℕ
 
-abbrev pub run_segments : Before → ℕ
-run_segments b = segments_of (argument b.view b.cpu 5) (argument b.view b.cpu 4)
+abbrev pub asks_nothing : Asking
+asks_nothing = record { input = false; others = λ b a. false; region = λ a. false; many = false; segments = λ b a. None }
 
-pub record AllocatesAlike (f : Renaming) (b other : Before) : Type 0 where
-  pub names : AreNumberedAlike f b.known other.known
-  pub room : asks_for_run b ≡ true → is_full_for (run_segments b) other.known ≡ is_full_for (run_segments b) b.known
-  pub shared : is_for_others b ≡ true → (i : ℕ) → other.known.taken 0 i ≡ b.known.taken 0 i
+abbrev pub asks_input : Asking
+asks_input = record asks_nothing { input = true }
 
--- a DosReallocHuge of this run comes to that question too: all conditions that come first are met
+abbrev pub asks_others : Asking
+asks_others = record asks_nothing { others = λ b a. true }
+
+abbrev pub some_where : Bool → ℕ → Option ℕ
+some_where t n = if t then Some n else None
+
+-- the flags of a segment that can be given or got, which has an index of the region that all share
+abbrev pub are_for_others : ℕ → Bool
+are_for_others flags = not (flags % 4 == 0)
+
+-- DosAllocSeg: its flags are good
+abbrev pub asks_segment : Asking
+asks_segment = record asks_nothing { region = λ a. are_for_others (a 0); segments = λ b a. some_where (not (nat_lt 15 (a 0))) 1 }
+
+-- DosAllocHuge: its sizes and its flags are good
+abbrev pub asks_run : Asking
+asks_run = record asks_nothing {
+  region = λ a. are_for_others (a 0);
+  many = true;
+  segments = λ b a. let m = segments_of (a 5) (a 4) in some_where (not (is_huge_fault m (a 1) (a 0))) m;
+}
+
+-- all conditions of a DosReallocHuge are met that come before that question
 abbrev pub comes_to_room : Known → (number index segs part : ℕ) → Cpu → Held → Bool
 comes_to_room k n i segs part c h =
     let is = members k n i h in
@@ -151,57 +147,74 @@ comes_to_room k n i segs part c h =
     is_first i h && (not (m == 0) && (not (nat_lt h.reserved m)
     && not ((nat_le shared_from h.first && nat_lt (bytes_of segs part) (all_bytes k n is)) || in_use c (drop m is))))
 
--- what it is to resize
-abbrev pub resized_run : Before → Option Held
-resized_run b = held_under b.known b.number (argument b.view b.cpu 0)
+-- how many members come to a run
+abbrev pub new_in_run : Known → (number index segs part : ℕ) → Cpu → Option Held → Option ℕ
+new_in_run k n i segs part c None = None
+new_in_run k n i segs part c (Some h) = some_where (comes_to_room k n i segs part c h) (segments_of segs part - length (members k n i h))
 
 -- a run with indexes of the region that all share
 abbrev pub is_shared_run : Held → Bool
 is_shared_run h = is_in_run h && nat_lt 4096 (h.first + h.reserved)
 
-abbrev pub asks_for_members_of : Before → Held → Bool
-asks_for_members_of b h =
-    let a : ℕ → ℕ = argument b.view b.cpu in
-    has_arguments b.view b.cpu 3 && comes_to_room b.known b.number (a 0 / 8) (a 2) (a 1) b.cpu h
+abbrev pub reaches_shared : Option Held → Bool
+reaches_shared None = false
+reaches_shared (Some h) = is_shared_run h
 
--- how many segments come
-abbrev pub new_segments : Before → Held → ℕ
-new_segments b h =
-    let a : ℕ → ℕ = argument b.view b.cpu in
-    segments_of (a 2) (a 1) - length (members b.known b.number (a 0 / 8) h)
+-- DosReallocHuge
+abbrev pub asks_members : Asking
+asks_members = record asks_nothing {
+  others = λ b a. reaches_shared (held_under b.known b.number (a 0));
+  many = true;
+  segments = λ b a. new_in_run b.known b.number (a 0 / 8) (a 2) (a 1) b.cpu (held_under b.known b.number (a 0));
+}
 
-pub record ResizesAlike (f : Renaming) (b other : Before) : Type 0 where
-  pub names : AreNumberedAlike f b.known other.known
-  pub own : (h : Held) → resized_run b ≡ Some h → is_shared_run h ≡ false
-  pub room : (h : Held) → resized_run b ≡ Some h → asks_for_members_of b h ≡ true → is_full_for (new_segments b h) other.known ≡ is_full_for (new_segments b h) b.known
+-- the services whose calls go by more than what their process holds
+abbrev pub askings : List (ℕ × Asking)
+askings =
+    (3, asks_input) ∷ (5, asks_segment) ∷ (12, asks_others) ∷ (13, asks_others) ∷ (14, asks_others) ∷ (15, asks_others) ∷
+    (16, asks_run) ∷ (17, asks_members) ∷ []
 
-abbrev pub IsRunAlike : Renaming → HugeCall → Before → Before → Type 0
-IsRunAlike f DosAllocHuge b other = AllocatesAlike f b other
-IsRunAlike f DosReallocHuge b other = ResizesAlike f b other
-IsRunAlike f DosGetHugeShift b other = Unit {0}
+abbrev pub asking_by : Option Asking → Asking
+asking_by None = asks_nothing
+asking_by (Some asking) = asking
 
--- Of the calls by which processes share segments nothing is said: they go by what other processes hold.
-abbrev pub IsAskedAlike : Renaming → Option Row → Before → Before → Type 0
+unfoldable pub asking_of : (service : ℕ) → Asking
+asking_of service = asking_by (get askings service)
+
+-- the words of a row lie in the stack, and its pointers are good
+abbrev pub comes_in : Before → Option CallRow → Bool
+comes_in b None = false
+comes_in b (Some r) = has_arguments b.view b.cpu (words_in r.slots) && are_good b.view (pointers_in r.slots b.view (argument b.view b.cpu))
+
+-- for how many more segments the call of a service asks
+abbrev pub asked : Before → (service : ℕ) → Option ℕ
+asked b service = if comes_in b (row_of service) then (asking_of service).segments b (argument b.view b.cpu) else None
+
+-- What it goes by is alike. Of a call that goes by what other processes hold nothing is said.
+pub record GoesAlike (f : Renaming) (asking : Asking) (a : ℕ → ℕ) (segments : Option ℕ) (b other : Before) : Type 0 where
+  pub input : asking.input ≡ true → other.input ≡ b.input
+  pub alone : asking.others b a ≡ false
+  pub region : asking.region a ≡ true → (i : ℕ) → other.known.taken 0 i ≡ b.known.taken 0 i
+  pub names : asking.many ≡ true → AreNumberedAlike f b.known other.known
+  pub room : (n : ℕ) → segments ≡ Some n → is_full_for n other.known ≡ is_full_for n b.known
+
+abbrev pub IsCalledAlike : Renaming → (service : ℕ) → Before → Before → Type 0
+IsCalledAlike f service b other = GoesAlike f (asking_of service) (argument b.view b.cpu) (asked b service) b other
+
+abbrev pub IsAskedAlike : Renaming → Option ℕ → Before → Before → Type 0
 IsAskedAlike f None b other = Unit {0}
-IsAskedAlike f (Some DosExit) b other = Unit {0}
-IsAskedAlike f (Some DosGetPid) b other = Unit {0}
-IsAskedAlike f (Some DosRead) b other = other.input ≡ b.input
-IsAskedAlike f (Some DosWrite) b other = Unit {0}
-IsAskedAlike f (Some DosMemAvail) b other = Unit {0}
-IsAskedAlike f (Some (OnSegments call)) b other = IsRuledAlike call b other
-IsAskedAlike f (Some (OnShared call)) b other = ⊥
-IsAskedAlike f (Some (OnRuns call)) b other = IsRunAlike f call b other
+IsAskedAlike f (Some service) b other = IsCalledAlike f service b other
 
 -- What calls and steps come to.
 
-abbrev pub called_by : Result Machine Stop → Option Row
+abbrev pub called_by : Result Machine Stop → Option ℕ
 called_by (Ok s) = None
 called_by (Err (stop.Trap vector code)) = None
-called_by (Err (stop.Gate service next)) = row_of service
+called_by (Err (stop.Gate service next)) = Some service
 called_by (Err (stop.Miss s)) = None
 
--- the call that a step makes
-abbrev pub call_of : Before → Option Row
+-- the service that a step calls
+abbrev pub call_of : Before → Option ℕ
 call_of b = called_by (stepped (state b.cpu b.view))
 
 abbrev pub renamed_change : Renaming → Change → Change

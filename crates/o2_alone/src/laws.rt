@@ -1,12 +1,11 @@
 // Laws on processes among others.
-ghost use Rattle.std.specs.Prelude.{◌≡◌, ℕ, List, [], ◌∷◌, Option, codes};
+ghost use Rattle.std.specs.Prelude.{◌≡◌, ℕ, List, [], ◌∷◌, codes};
 ghost use Rattle.o2_isa.specs.declared.cpu.Cpu.{Cpu};
 ghost use Rattle.o2_isa.specs.View.{View};
 ghost use Rattle.o2_isa.specs.Steps.{state};
 ghost use Rattle.o2_isa.specs.Step.{stepped};
-ghost use Rattle.o2_world.specs.declared.types.Row.{Row};
 ghost use Rattle.o2_world.specs.CallParts.{Before};
-ghost use Rattle.o2_world.specs.Calls.{served_by};
+ghost use Rattle.o2_world.specs.Calls.{serviced};
 ghost use Rattle.o2_world.specs.Effect.{effect};
 ghost use Rattle.o2_world.specs.Changes.{Change, moved_lines};
 ghost use Rattle.o2_world.specs.World.{World, Setting};
@@ -15,7 +14,7 @@ ghost use Rattle.o2_alone.specs.Events.{events, events_of};
 ghost use Rattle.o2_alone.specs.Worked.{hello_pointers, in_turns, pieces, pointers, second_alone, two_hellos};
 ghost use Rattle.o2_alone.specs.Alone.{opening_alone};
 ghost use Rattle.o2_alone.specs.Isolation.{BeginsAlike, IsIsolatedFrom, Isolation};
-ghost use Rattle.o2_alone.specs.Renaming.{Renaming, IsRenamed, IsRenamedEffect, IsRenamedView, IsRenamedResult, IsAskedAlike, call_of, renamed_changes};
+ghost use Rattle.o2_alone.specs.Renaming.{Renaming, IsRenamed, IsRenamedEffect, IsRenamedView, IsRenamedResult, IsAskedAlike, IsCalledAlike, call_of, renamed_changes};
 
 /// An instruction never depends on where a segment is: over two views with other numbers for the names that the process holds, and
 /// with the same rights, sizes and bytes under each selector, it leaves the same registers and the same bytes behind the names, or
@@ -25,13 +24,13 @@ pub fn instructions_depend_on_no_name()
         → IsRenamedResult f (stepped (state c v)) (stepped (state c other)) }
 {}
 
-/// Nor does a call but those by which processes share segments: the same registers, state, bytes, console piece and lines, and the
-/// same changes of the same segments. A DosRead goes by the input too, and a DosAllocSeg by whether one more segment may live and,
-/// for a segment that others may have, by which indexes of the region that all share are taken. The lines of a change have no number of a name.
+/// Nor does a call: the same registers, state, bytes, console piece and lines, and the same changes of the same segments, where what it
+/// goes by beside what its process holds is alike in both (`askings`). Nothing is said of the calls by which processes share segments,
+/// nor of a DosReallocHuge of a run in the region that all share. The lines of a change have no number of a name.
 pub fn calls_depend_on_no_name()
-    ensures rows { (f : Renaming) (row : Option Row) (b other : Before) (next : ℕ)
-        → IsRenamed f b other → IsAskedAlike f row b other
-        → IsRenamedEffect f b other (served_by row b next) (served_by row other next) }
+    ensures rows { (f : Renaming) (service : ℕ) (b other : Before) (next : ℕ)
+        → IsRenamed f b other → IsCalledAlike f service b other
+        → IsRenamedEffect f b other (serviced b service next) (serviced other service next) }
     ensures lines { (f : Renaming) (cause : List ℕ) (changes : List Change)
         → moved_lines cause (renamed_changes f changes) ≡ moved_lines cause changes }
 {}

@@ -2,28 +2,20 @@
 use Rattle.std.specs.Prelude.{◌≡◌, ℕ, ◌+◌, ◌*◌, ◌/◌, ◌≤◌, ◌==◌, ◌&&◌, ◌||◌, Bool, true, false, not, nat_le, nat_lt, if◌then◌else◌, max}
 use Rattle.std.specs.Prelude.{List, [], ◌∷◌, ◌++◌, filter, length, map, sum, Option, Some, None, Result, Err}
 use Rattle.std.specs.List.{list_any}
-use Rattle.o2_isa.specs.View.{View, Hold, Registers, is_readable, is_writable, bound_in}
+use Rattle.o2_isa.specs.View.{View, Hold, Registers, bound_in}
 use Rattle.o2_isa.specs.Pointers.{is_for_es}
 use Rattle.o2_isa.specs.Steps.{State as Machine, state}
 use Rattle.o2_isa.specs.Step.{stepped, step_names}
 use Rattle.o2_isa.specs.declared.cpu.Stop.{Stop}
 use Rattle.o2_isa.specs.declared.cpu.Stop.TheVariants as stop
 use Rattle.o2_conf.specs.Dispatch.{Dispatch}
-use Rattle.o2_world.specs.Words.{words_of}
-use Rattle.o2_world.specs.declared.types.Row.{Row}
-use Rattle.o2_world.specs.declared.types.Row.TheVariants.{DosExit, DosGetPid, DosRead, DosWrite, DosMemAvail, OnSegments, OnShared, OnRuns}
-use Rattle.o2_world.specs.declared.types.SegmentCall.{SegmentCall}
-use Rattle.o2_world.specs.declared.types.SegmentCall.TheVariants.{DosAllocSeg, DosReallocSeg, DosFreeSeg, DosSizeSeg, DosLockSeg, DosUnlockSeg, DosCreateCsAlias}
-use Rattle.o2_world.specs.declared.types.SharedCall.{SharedCall}
-use Rattle.o2_world.specs.declared.types.SharedCall.TheVariants.{DosAllocShrSeg, DosGetShrSeg, DosGiveSeg, DosGetSeg}
-use Rattle.o2_world.specs.declared.types.HugeCall.{HugeCall}
-use Rattle.o2_world.specs.declared.types.HugeCall.TheVariants.{DosAllocHuge, DosReallocHuge, DosGetHugeShift}
 use Rattle.o2_world.specs.Map.{Map, get}
 use Rattle.o2_world.specs.World.{World, Setting, Process, Segment, is_live}
 use Rattle.o2_world.specs.Holders.{process_at}
 use Rattle.o2_world.specs.Views.{view_of}
 use Rattle.o2_world.specs.Calls.{Before, Effect, argument, has_arguments, row_of}
-use Rattle.o2_world.specs.SharedNames.{text_size}
+use Rattle.o2_world.specs.Outcomes.{CallRow}
+use Rattle.o2_world.specs.Slots.{Pointer, pointers_in, words_in}
 use Rattle.o2_world.specs.Effect.{answered}
 use Rattle.o2_world.specs.Run.{before, changed, next_dispatch}
 
@@ -45,51 +37,6 @@ name_in (Some h) = h.name ∷ []
 abbrev pub seated : Registers → List ℕ
 seated r = name_in r.es ++ name_in r.cs ++ name_in r.ss ++ name_in r.ds
 
--- a pointer of a call: where it points, how many bytes it is for, and which access bytes are good
-pub record Pointer : Type 0 where
-  pub selector : ℕ
-  pub offset : ℕ
-  pub count : ℕ
-  pub good : ℕ → Bool
-
--- the pointers of a call in the order in which they are checked; argument 0 was pushed last
-abbrev pub pointer_at : (ℕ → ℕ) → (place count : ℕ) → (ℕ → Bool) → Pointer
-pointer_at a place count good = record { selector = a (place + 1); offset = a place; count = count; good = good }
-
-abbrev pub segment_pointers : SegmentCall → (ℕ → ℕ) → List Pointer
-segment_pointers DosAllocSeg a = pointer_at a 1 2 is_writable ∷ []
-segment_pointers DosReallocSeg a = []
-segment_pointers DosFreeSeg a = []
-segment_pointers DosSizeSeg a = pointer_at a 0 4 is_writable ∷ []
-segment_pointers DosLockSeg a = []
-segment_pointers DosUnlockSeg a = []
-segment_pointers DosCreateCsAlias a = pointer_at a 0 2 is_writable ∷ []
-
--- a pointer to a text is for as many bytes as are looked at
-abbrev pub text_pointer : View → (ℕ → ℕ) → (place : ℕ) → Pointer
-text_pointer v a place = pointer_at a place (text_size v (a (place + 1)) (a place)) is_readable
-
-abbrev pub shared_pointers : SharedCall → View → (ℕ → ℕ) → List Pointer
-shared_pointers DosAllocShrSeg v a = text_pointer v a 2 ∷ pointer_at a 0 2 is_writable ∷ []
-shared_pointers DosGetShrSeg v a = text_pointer v a 2 ∷ pointer_at a 0 2 is_writable ∷ []
-shared_pointers DosGiveSeg v a = pointer_at a 0 2 is_writable ∷ []
-shared_pointers DosGetSeg v a = []
-
-abbrev pub huge_pointers : HugeCall → (ℕ → ℕ) → List Pointer
-huge_pointers DosAllocHuge a = pointer_at a 2 2 is_writable ∷ []
-huge_pointers DosReallocHuge a = []
-huge_pointers DosGetHugeShift a = pointer_at a 0 2 is_writable ∷ []
-
-abbrev pub pointers_of : Row → View → (ℕ → ℕ) → List Pointer
-pointers_of DosExit v a = []
-pointers_of DosGetPid v a = pointer_at a 0 6 is_writable ∷ []
-pointers_of DosRead v a = pointer_at a 3 (a 2) is_writable ∷ pointer_at a 0 2 is_writable ∷ []
-pointers_of DosWrite v a = pointer_at a 3 (a 2) is_readable ∷ pointer_at a 0 2 is_writable ∷ []
-pointers_of DosMemAvail v a = pointer_at a 0 4 is_writable ∷ []
-pointers_of (OnSegments call) v a = segment_pointers call a
-pointers_of (OnShared call) v a = shared_pointers call v a
-pointers_of (OnRuns call) v a = huge_pointers call a
-
 -- a selector that passes counts even where the right to write or the range behind it is refused, and nothing behind a refused
 -- pointer does; a range of no bytes is not looked at
 abbrev pub passed : View → Option Hold → Pointer → (rest : List ℕ) → List ℕ
@@ -105,11 +52,11 @@ pointed v (p ∷ ps) =
     if p.count == 0 then pointed v ps else passed v (bound_in v.held p.selector) p (pointed v ps)
 
 -- the words of a call's arguments must lie in the stack before a pointer is looked at
-abbrev pub call_names : Before → Option Row → List ℕ
+abbrev pub call_names : Before → Option CallRow → List ℕ
 call_names b None = []
 call_names b (Some row) =
-    if has_arguments b.view b.cpu (words_of row)
-    then pointed b.view (pointers_of row b.view (argument b.view b.cpu))
+    if has_arguments b.view b.cpu (words_in row.slots)
+    then pointed b.view (pointers_in row.slots b.view (argument b.view b.cpu))
     else []
 
 abbrev pub gate_names : Before → Result Machine Stop → List ℕ

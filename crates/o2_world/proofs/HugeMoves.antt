@@ -1,33 +1,26 @@
 -- What each call on a huge allocation changes, by its shape.
 use Rattle.std.proofs.Common.{◌≡◌, ◌⊎◌, inl, inr, ℕ, zero, suc, ◌+◌, ◌-◌, ◌<◌, ◌≤◌, ◌==◌, ◌/◌, nat_lt, nat_le, ◌&&◌, ◌||◌, Bool, true, false, cond, List, [], ◌∷◌, ◌++◌}
-use Rattle.std.proofs.Common.{length, Option, Some, None, if◌then◌else◌, ap, ◌∙◌, refl, arith, subst}
-use Rattle.std.specs.Prelude.{codes, drop, flat_map, is_some, max}
+use Rattle.std.proofs.Common.{length, Option, Some, None, if◌then◌else◌, ap, sym, ◌∙◌, refl, arith, subst}
+use Rattle.std.specs.Prelude.{drop, flat_map, is_some, max}
 use Rattle.o2_desc.specs.Bits.{has_bit}
 use Rattle.o2_desc.specs.Choice.{IsChosen, chosen}
 use Rattle.o2_desc.proofs.Choices.{chosen_law}
 use Rattle.o2_isa.specs.declared.cpu.Cpu.{Cpu}
-use Rattle.o2_world.specs.declared.types.Argument.{Argument}
-use Rattle.o2_world.specs.declared.types.Argument.TheVariants.{Far}
-use Rattle.o2_world.specs.declared.types.HugeCall.{HugeCall}
-use Rattle.o2_world.specs.declared.types.HugeCall.TheVariants.{DosAllocHuge, DosReallocHuge, DosGetHugeShift}
-use Rattle.o2_world.specs.World.{Held}
-use Rattle.o2_world.specs.Changes.{Change, Reserves, Resizes}
+use Rattle.o2_isa.specs.Presence.{SameSelectors}
+use Rattle.o2_world.specs.World.{Held, Segment}
+use Rattle.o2_world.specs.Changes.{Change, Holds, Makes, Reserves, Resizes}
 use Rattle.o2_world.specs.Known.{Known, Marks}
-use Rattle.o2_world.specs.CallParts.{Before, Effect, argument, has_arguments, may_write, returned}
-use Rattle.o2_world.specs.Rulings.{Ruling, dropped_indexes, full_size, held_under, in_use, indexes, is_in_run, members, region_by}
-use Rattle.o2_world.specs.SegmentCalls.{Written, ruled_at, written_word}
+use Rattle.o2_world.specs.CallParts.{Before}
+use Rattle.o2_world.specs.Rulings.{Ruling, dropped_indexes, full_size, grants, held_under, in_use, indexes, is_in_run, made_segment, members, refusal, region_by}
 use Rattle.o2_world.specs.SharedRulings.{marks_under, shared_from}
-use Rattle.o2_world.specs.HugeRulings.{all_bytes, all_dropped, all_hold, bytes_of, dropped_members, flags_in, free_run, huge_allocation, huge_at, huge_reallocation}
-use Rattle.o2_world.specs.HugeRulings.{huge_reallocation_of, huge_shift, is_first, is_huge_fault, is_unheld, left_in_run, names_one, new_members, other_shares}
+use Rattle.o2_world.specs.HugeRulings.{all_bytes, all_dropped, all_hold, bytes_of, dropped_members, flags_in, free_run, held_in_run, huge_allocation, huge_at, huge_reallocation}
+use Rattle.o2_world.specs.HugeRulings.{huge_reallocation_of, is_first, is_huge_fault, is_unheld, left_in_run, names_one, new_members, other_shares}
 use Rattle.o2_world.specs.HugeRulings.{resized_members, resized_one, run_changes, run_reserve, run_resized, segments_of, share_of, sizes_of, without}
-use Rattle.o2_world.specs.HugeCalls.{allocated_huge, dos_alloc_huge, dos_get_huge_shift, dos_realloc_huge, huge_args, on_runs, reallocated_huge}
-use Rattle.o2_world.specs.Moves.{AreApart, AreHolders, AreOfRuling, Each, IsFreeIndex, IsOpen, Maker, NoRun, OfAllocation, OfNone, OfReallocation, RunMade, RunMoves, RunSized, Sharer}
+use Rattle.o2_world.specs.Outcomes.{gone_indexes}
+use Rattle.o2_world.specs.Calls.{huge_allocation_by, huge_reallocation_by}
+use Rattle.o2_world.specs.Moves.{AreApart, AreHolders, Each, IsFreeIndex, IsOpen, Maker, NoRun, OfAllocation, OfReallocation, OneRun, RunMade, RunMoves, RunSized, Sharer}
+use Rattle.o2_world.specs.RowLaws.{RuledMoves}
 use Rattle.o2_world.proofs.SegmentMoves.{above, apart_kept, held_there, indexes_apart, indexes_from, kept_are, members_apart, members_held, region_is}
-
-either : (b : Before) (t : Bool) (e f : Effect) → RunMoves b e.cpu e.changes → RunMoves b f.cpu f.changes
-    → RunMoves b (cond t e f).cpu (cond t e f).changes
-either b true e f h k = h
-either b false e f h k = k
 
 rules : (b : Before) (cpu : Cpu) (t : Bool) (r q : Ruling) → (t ≡ true → RunMoves b cpu r.changes) → (t ≡ false → RunMoves b cpu q.changes) → RunMoves b cpu (cond t r q).changes
 rules b cpu true r q h k = h refl
@@ -140,68 +133,112 @@ module _ (b : Before) (cpu : Cpu) (segs part flags : ℕ) where
       (λ _. made_at (max (segments_of segs part) most) (free_run k (region_by n flags) (max (segments_of segs part) most)) refl (faultless most good)
       (at_most (segments_of segs part) most) (above_zero (segments_of segs part) most (faultless most good))))
 
--- The call.
-
-ruled_moves : (b : Before) (next words : ℕ) (name : List ℕ) (args : List Argument) (t : Written) (r : Ruling)
-    → ((cpu : Cpu) → RunMoves b cpu r.changes) → RunMoves b (ruled_at b next words name args t r).cpu (ruled_at b next words name args t r).changes
-ruled_moves b next words name args t r h = either b (r.error == 0) _ _ (h _) (NoRun refl)
-
-pub allocated_moves : (b : Before) (next segs part s o most flags : ℕ) → RunMoves b (allocated_huge b next segs part s o most flags).cpu (allocated_huge b next segs part s o most flags).changes
-allocated_moves b next segs part s o most flags =
-    let r = huge_allocation b.known b.number segs part most flags in
-    either b (may_write b.view s o 2) _ _
-    (ruled_moves b next 6 (codes "DosAllocHuge") (huge_args segs part s o most flags) (written_word s o r.value) r (λ cpu. huge_moves b cpu segs part flags most))
-    (NoRun refl)
-
 -- DosReallocHuge.
 
--- the indexes of which holds go are those of the members that go
-
-resized_none : (k : Known) (n : ℕ) (is zs : List ℕ) (cs : List Change) → dropped_indexes (resized_members k n is zs ++ cs) ≡ dropped_indexes cs
-resized_none k n [] zs cs = refl
-resized_none k n (i ∷ is) [] cs = refl
-resized_none k n (i ∷ is) (z ∷ zs) cs = one (resized_none k n is zs cs) (k.held n i) (marks_under k (k.held n i))
-  where
-    append : (xs : List Change) → (xs ++ resized_members k n is zs) ++ cs ≡ xs ++ (resized_members k n is zs ++ cs)
-    append [] = refl
-    append (x ∷ xs) = ap (λ (ys : List Change). x ∷ ys) (append xs)
-
-    here : dropped_indexes (resized_members k n is zs ++ cs) ≡ dropped_indexes cs → (h : Held) (b : Bool)
-        → dropped_indexes ((if b then [] else Resizes h.name (full_size z) ∷ []) ++ (resized_members k n is zs ++ cs)) ≡ dropped_indexes cs
-    here rest h true = rest
-    here rest h false = rest
-
-    one : dropped_indexes (resized_members k n is zs ++ cs) ≡ dropped_indexes cs → (o : Option Held) (m : Option Marks)
-        → dropped_indexes ((resized_one z o m ++ resized_members k n is zs) ++ cs) ≡ dropped_indexes cs
-    one rest None None = rest
-    one rest None (Some m) = rest
-    one rest (Some h) None = rest
-    one rest (Some h) (Some m) = ap dropped_indexes (append (resized_one z (Some h) (Some m))) ∙ here rest h (m.size == full_size z)
-
-holds_none : (name first count i : ℕ) (ps : List (ℕ × ℕ)) (cs : List Change) → dropped_indexes (all_hold name first count i ps ++ cs) ≡ dropped_indexes cs
-holds_none name first count i [] cs = refl
-holds_none name first count i (p ∷ ps) cs = holds_none name first count i ps cs
+-- the indexes of which holds go, and those of which nothing is held any more, are those of the members that go
 
 append_twice : (xs ys zs : List Change) → (xs ++ ys) ++ zs ≡ xs ++ (ys ++ zs)
 append_twice [] ys zs = refl
 append_twice (x ∷ xs) ys zs = ap (λ (cs : List Change). x ∷ cs) (append_twice xs ys zs)
 
-made_none : (name first count flags : ℕ) (ps : List (ℕ × ℕ)) (is zs : List ℕ) (cs : List Change)
-    → dropped_indexes (new_members name first count flags ps is zs ++ cs) ≡ dropped_indexes cs
-made_none name first count flags ps [] zs cs = refl
-made_none name first count flags ps (i ∷ is) [] cs = refl
-made_none name first count flags ps (i ∷ is) (z ∷ zs) cs =
-    ap dropped_indexes (append_twice (all_hold name first count i ps) (new_members (name + 1) first count flags ps is zs) cs)
-    ∙ holds_none name first count i ps (new_members (name + 1) first count flags ps is zs ++ cs)
-    ∙ made_none (name + 1) first count flags ps is zs cs
+record Skips (f : List Change → List ℕ) : Type 0 where
+  makes : (s : Segment) (cs : List Change) → f (Makes s ∷ cs) ≡ f cs
+  resizes : (name size : ℕ) (cs : List Change) → f (Resizes name size ∷ cs) ≡ f cs
+  holds : (p i : ℕ) (h : Held) (cs : List Change) → f (Holds p i h ∷ cs) ≡ f cs
 
-gone_are : (k : Known) (n : ℕ) (is : List ℕ) → Each (λ (i : ℕ). is_some (k.held n i) ≡ true) is → dropped_indexes (dropped_members k n is) ≡ is
+module _ (f : List Change → List ℕ) (skips : Skips f) where
+  resized_none : (k : Known) (n : ℕ) (is zs : List ℕ) (cs : List Change) → f (resized_members k n is zs ++ cs) ≡ f cs
+  resized_none k n [] zs cs = refl
+  resized_none k n (i ∷ is) [] cs = refl
+  resized_none k n (i ∷ is) (z ∷ zs) cs = one (resized_none k n is zs cs) (k.held n i) (marks_under k (k.held n i))
+    where
+      here : f (resized_members k n is zs ++ cs) ≡ f cs → (h : Held) (b : Bool)
+          → f ((cond b [] (Resizes h.name (full_size z) ∷ []) ++ resized_members k n is zs) ++ cs) ≡ f cs
+      here rest h true = rest
+      here rest h false = skips.resizes h.name (full_size z) (resized_members k n is zs ++ cs) ∙ rest
+
+      one : f (resized_members k n is zs ++ cs) ≡ f cs → (o : Option Held) (m : Option Marks)
+          → f ((resized_one z o m ++ resized_members k n is zs) ++ cs) ≡ f cs
+      one rest None None = rest
+      one rest None (Some m) = rest
+      one rest (Some h) None = rest
+      one rest (Some h) (Some m) = here rest h (m.size == full_size z)
+
+  holds_none : (name first count i : ℕ) (ps : List (ℕ × ℕ)) (cs : List Change) → f (all_hold name first count i ps ++ cs) ≡ f cs
+  holds_none name first count i [] cs = refl
+  holds_none name first count i (p ∷ ps) cs = skips.holds p.0 i (held_in_run name first count p.1) (all_hold name first count i ps ++ cs) ∙ holds_none name first count i ps cs
+
+  made_none : (name first count flags : ℕ) (ps : List (ℕ × ℕ)) (is zs : List ℕ) (cs : List Change) → f (new_members name first count flags ps is zs ++ cs) ≡ f cs
+  made_none name first count flags ps [] zs cs = refl
+  made_none name first count flags ps (i ∷ is) [] cs = refl
+  made_none name first count flags ps (i ∷ is) (z ∷ zs) cs =
+      skips.makes (made_segment z flags) ((all_hold name first count i ps ++ new_members (name + 1) first count flags ps is zs) ++ cs)
+      ∙ ap f (append_twice (all_hold name first count i ps) (new_members (name + 1) first count flags ps is zs) cs)
+      ∙ holds_none name first count i ps (new_members (name + 1) first count flags ps is zs ++ cs)
+      ∙ made_none (name + 1) first count flags ps is zs cs
+
+  members_alone : (k : Known) (n : ℕ) (h : Held) (is zs : List ℕ) → f (run_changes k n h is zs) ≡ f (dropped_members k n (drop (length zs) is))
+  members_alone k n h is zs =
+      resized_none k n is zs _
+      ∙ made_none k.next h.first h.reserved (flags_in (k.segment h.name)) ((n, h.holds) ∷ other_shares k n h.first) (left_in_run k n h) (drop (length is) zs) (dropped_members k n (drop (length zs) is))
+
+gone_skips : (k : Known) → Skips (gone_indexes k)
+gone_skips k = record { makes = λ s cs. refl; resizes = λ name size cs. refl; holds = λ p i h cs. refl }
+
+dropped_skips : Skips dropped_indexes
+dropped_skips = record { makes = λ s cs. refl; resizes = λ name size cs. refl; holds = λ p i h cs. refl }
+
+no_more : (n : ℕ) → nat_le n n ≡ true
+no_more n = grind arith
+
+gone_are : (k : Known) (n : ℕ) (is : List ℕ) → Each (λ (i : ℕ). is_some (k.held n i) ≡ true) is → gone_indexes k (dropped_members k n is) ≡ is
 gone_are k n [] held = refl
-gone_are k n (i ∷ is) held = one (gone_are k n is held.1) (k.held n i) held.0
+gone_are k n (i ∷ is) held = one (gone_are k n is held.1) (k.held n i) refl held.0
   where
-    one : dropped_indexes (dropped_members k n is) ≡ is → (o : Option Held) → is_some o ≡ true → dropped_indexes (all_dropped n i o ++ dropped_members k n is) ≡ i ∷ is
-    one rest None e = absurd (cc)
-    one rest (Some h) e = ap (λ (js : List ℕ). i ∷ js) rest
+    one : gone_indexes k (dropped_members k n is) ≡ is → (o : Option Held) → k.held n i ≡ o → is_some o ≡ true
+        → gone_indexes k (all_dropped n i o ++ dropped_members k n is) ≡ i ∷ is
+    one rest None at e = absurd (cc)
+    one rest (Some h) at e = rw (at, no_more h.holds) (ap (λ (js : List ℕ). i ∷ js) rest)
+
+-- who drops a member drops all holds of it
+all_gone : (k : Known) (n : ℕ) (is : List ℕ) → gone_indexes k (dropped_members k n is) ≡ dropped_indexes (dropped_members k n is)
+all_gone k n [] = refl
+all_gone k n (i ∷ is) = one (all_gone k n is) (k.held n i) refl
+  where
+    one : gone_indexes k (dropped_members k n is) ≡ dropped_indexes (dropped_members k n is) → (o : Option Held) → k.held n i ≡ o
+        → gone_indexes k (all_dropped n i o ++ dropped_members k n is) ≡ dropped_indexes (all_dropped n i o ++ dropped_members k n is)
+    one rest None at = rest
+    one rest (Some h) at = rw (at, no_more h.holds) (ap (λ (js : List ℕ). i ∷ js) rest)
+
+gone_or_dropped : (k : Known) (n : ℕ) (h : Held) (is zs : List ℕ) → gone_indexes k (run_changes k n h is zs) ≡ dropped_indexes (run_changes k n h is zs)
+gone_or_dropped k n h is zs =
+    members_alone (gone_indexes k) (gone_skips k) k n h is zs ∙ all_gone k n (drop (length zs) is) ∙ sym (members_alone dropped_indexes dropped_skips k n h is zs)
+
+-- so DS and ES behind a DosReallocHuge are 0 where they named a member that went
+record Clears (k : Known) (d : Cpu) (r : Ruling) : Type 0 where
+  same : without d (gone_indexes k r.changes) ≡ without d (dropped_indexes r.changes)
+
+refuses : (k : Known) (d : Cpu) (error : ℕ) → Clears k d (refusal error)
+refuses k d error = record { same = refl }
+
+either_clears : (k : Known) (d : Cpu) (t : Bool) (r q : Ruling) → Clears k d r → Clears k d q → Clears k d (cond t r q)
+either_clears k d true r q h g = h
+either_clears k d false r q h g = g
+
+held_clears : (k : Known) (n segs part i : ℕ) (c d : Cpu) (o : Option Held) → Clears k d (huge_reallocation_of k n i segs part c o)
+held_clears k n segs part i c d None = refuses k d 5
+held_clears k n segs part i c d (Some h) =
+    let is = members k n i h in
+    let m = segments_of segs part in
+    either_clears k d (is_first i h) (run_resized k n segs part c h is) (refusal 5)
+    (either_clears k d (m == 0) _ _ (refuses k d 87) (either_clears k d (nat_lt h.reserved m) _ _ (refuses k d 8)
+    (either_clears k d ((nat_le shared_from h.first && nat_lt (bytes_of segs part) (all_bytes k n is)) || in_use c (drop m is)) _ _ (refuses k d 5)
+    (either_clears k d (nat_lt k.most (k.count + (m - length is)) || nat_lt (length is + length (left_in_run k n h)) m) _ (grants 0 (run_changes k n h is (sizes_of segs part)))
+    (refuses k d 8) (record { same = ap (without d) (gone_or_dropped k n h is (sizes_of segs part)) }))))) (refuses k d 5)
+
+pub resize_clears : (k : Known) (n segs part s : ℕ) (c d : Cpu)
+    → let cs = (huge_reallocation k n segs part s c).changes in without d (gone_indexes k cs) ≡ without d (dropped_indexes cs)
+resize_clears k n segs part s c d = (held_clears k n segs part (s / 8) c d (held_under k n s)).same
 
 each_dropped : (P : ℕ → Type 0) (m : ℕ) (is : List ℕ) → Each P is → Each P (drop m is)
 each_dropped P zero is h = h
@@ -244,21 +281,21 @@ others_share b first = go (nat_le shared_from first)
     go true = all_share b first (indexes 1 b.known.processes)
     go false = tt
 
-module _ (b : Before) (next segs part s : ℕ) where
+module _ (b : Before) (segs part s : ℕ) (c : Cpu) (same : SameSelectors c b.cpu) where
   abbrev known : Known
   known = b.known
 
   -- the registers behind it, by its ruling
-  abbrev behind : Ruling → Cpu → Cpu
-  behind r c = without c (dropped_indexes r.changes)
+  abbrev behind : Ruling → Cpu
+  behind r = without c (gone_indexes b.known r.changes)
 
   abbrev done : Held → List ℕ → Ruling
   done h is = record { error = 0; value = 0; changes = run_changes known b.number h is (sizes_of segs part) }
 
-  sized_is : (c : Cpu) (h : Held) (is : List ℕ) → c.cs ≡ b.cpu.cs → c.ss ≡ b.cpu.ss → c.ds ≡ b.cpu.ds → c.es ≡ b.cpu.es → known.held b.number h.first ≡ Some h
+  sized_is : (h : Held) (is : List ℕ) → known.held b.number h.first ≡ Some h
       → AreApart is → Each (λ (i : ℕ). is_some (known.held b.number i) ≡ true) is → in_use b.cpu (drop (segments_of segs part) is) ≡ false
-      → RunMoves b (behind (done h is) c) (done h is).changes
-  sized_is c h is cs ss ds es there apart held unused =
+      → RunMoves b (behind (done h is)) (done h is).changes
+  sized_is h is there apart held unused =
       RunSized h.first h.reserved (flags_in (known.segment h.name)) h.holds (other_shares known b.number h.first) is zs (left_in_run known b.number h) (drop (length is) zs) gone
       (record {
         holders = (Sharer h.first h there refl, others_share b h.first);
@@ -269,10 +306,10 @@ module _ (b : Before) (next segs part s : ℕ) where
         apart = apart_dropped (length zs) is apart;
         held = gone_held;
         unused = ap (λ (m : ℕ). in_use b.cpu (drop m is)) (sizes_length segs part) ∙ unused;
-        cs = cs;
-        ss = ss;
-        ds = ap (λ (js : List ℕ). if names_one c.ds js then 0 else c.ds) dropped_are ∙ ap (λ (x : ℕ). if names_one x gone then 0 else x) ds;
-        es = ap (λ (js : List ℕ). if names_one c.es js then 0 else c.es) dropped_are ∙ ap (λ (x : ℕ). if names_one x gone then 0 else x) es;
+        cs = same.cs;
+        ss = same.ss;
+        ds = ap (λ (js : List ℕ). if names_one c.ds js then 0 else c.ds) dropped_are ∙ ap (λ (x : ℕ). if names_one x gone then 0 else x) same.ds;
+        es = ap (λ (js : List ℕ). if names_one c.es js then 0 else c.es) dropped_are ∙ ap (λ (x : ℕ). if names_one x gone then 0 else x) same.es;
       }) refl
     where
       zs : List ℕ
@@ -284,15 +321,12 @@ module _ (b : Before) (next segs part s : ℕ) where
       gone_held : Each (λ (i : ℕ). is_some (known.held b.number i) ≡ true) (drop (length (sizes_of segs part)) is)
       gone_held = each_dropped (λ (i : ℕ). is_some (known.held b.number i) ≡ true) (length (sizes_of segs part)) is held
 
-      dropped_are : dropped_indexes (run_changes known b.number h is (sizes_of segs part)) ≡ drop (length (sizes_of segs part)) is
-      dropped_are =
-          resized_none known b.number is zs _
-          ∙ made_none known.next h.first h.reserved (flags_in (known.segment h.name)) ((b.number, h.holds) ∷ other_shares known b.number h.first) (left_in_run known b.number h) (drop (length is) zs) (dropped_members known b.number gone)
-          ∙ gone_are known b.number gone gone_held
+      dropped_are : gone_indexes known (run_changes known b.number h is (sizes_of segs part)) ≡ drop (length (sizes_of segs part)) is
+      dropped_are = members_alone (gone_indexes known) (gone_skips known) known b.number h is zs ∙ gone_are known b.number gone gone_held
 
-  run_moves : (error i : ℕ) (h : Held) → known.held b.number i ≡ Some h → is_first i h ≡ true → (is : List ℕ) → AreApart is → Each (λ (j : ℕ). is_some (known.held b.number j) ≡ true) is
-      → let r = run_resized known b.number segs part b.cpu h is in RunMoves b (behind r (returned b.cpu next 3 error)) r.changes
-  run_moves error i h there first is apart held =
+  run_moves : (i : ℕ) (h : Held) → known.held b.number i ≡ Some h → is_first i h ≡ true → (is : List ℕ) → AreApart is → Each (λ (j : ℕ). is_some (known.held b.number j) ≡ true) is
+      → let r = run_resized known b.number segs part b.cpu h is in RunMoves b (behind r) r.changes
+  run_moves i h there first is apart held =
       go (segments_of segs part == 0) (nat_lt h.reserved (segments_of segs part)) ((nat_le shared_from h.first && nat_lt (bytes_of segs part) (all_bytes known b.number is)) || in_use b.cpu (drop (segments_of segs part) is)) refl
       (nat_lt known.most (known.count + (segments_of segs part - length is)) || nat_lt (length is + length (left_in_run known b.number h)) (segments_of segs part))
     where
@@ -311,71 +345,36 @@ module _ (b : Before) (next segs part s : ℕ) where
           else (if c then record { error = 8; value = 0; changes = [] }
           else (if d then record { error = 5; value = 0; changes = [] }
           else (if f then record { error = 8; value = 0; changes = [] } else done h is))) in
-          RunMoves b (behind r (returned b.cpu next 3 error)) r.changes
+          RunMoves b (behind r) r.changes
       go true c d e f = NoRun refl
       go false true d e f = NoRun refl
       go false false true e f = NoRun refl
       go false false false e true = NoRun refl
       go false false false e false =
-          sized_is (returned b.cpu next 3 error) h is refl refl refl refl at_first apart held
+          sized_is h is at_first apart held
           (either_false (nat_le shared_from h.first && nat_lt (bytes_of segs part) (all_bytes known b.number is)) (in_use b.cpu (drop (segments_of segs part) is)) e).1
 
-  held_moves : (error : ℕ) (o : Option Held) → held_under known b.number s ≡ o
-      → let r = huge_reallocation_of known b.number (s / 8) segs part b.cpu o in RunMoves b (behind r (returned b.cpu next 3 error)) r.changes
-  held_moves error None e = NoRun refl
-  held_moves error (Some h) e = go (is_first (s / 8) h) refl
+  held_moves : (o : Option Held) → held_under known b.number s ≡ o
+      → let r = huge_reallocation_of known b.number (s / 8) segs part b.cpu o in RunMoves b (behind r) r.changes
+  held_moves None e = NoRun refl
+  held_moves (Some h) e = go (is_first (s / 8) h) refl
     where
       there : known.held b.number (s / 8) ≡ Some h
       there = held_there known b.number s h e
 
       go : (t : Bool) → is_first (s / 8) h ≡ t
           → let r : Ruling = if t then run_resized known b.number segs part b.cpu h (members known b.number (s / 8) h) else record { error = 5; value = 0; changes = [] } in
-          RunMoves b (behind r (returned b.cpu next 3 error)) r.changes
-      go true first = run_moves error (s / 8) h there first (members known b.number (s / 8) h) (members_apart known b.number (s / 8) h) (members_held known b.number (s / 8) h there)
+          RunMoves b (behind r) r.changes
+      go true first = run_moves (s / 8) h there first (members known b.number (s / 8) h) (members_apart known b.number (s / 8) h) (members_held known b.number (s / 8) h there)
       go false first = NoRun refl
 
-  reallocated_moves : RunMoves b (reallocated_huge b next segs part s).cpu (reallocated_huge b next segs part s).changes
-  reallocated_moves = held_moves (huge_reallocation known b.number segs part s b.cpu).error (held_under known b.number s) refl
+  pub reallocated_moves : (let r = huge_reallocation known b.number segs part s b.cpu in RunMoves b (behind r) r.changes)
+  reallocated_moves = held_moves (held_under known b.number s) refl
 
-pub on_runs_moves : (call : HugeCall) (b : Before) (next : ℕ) → RunMoves b (on_runs call b next).cpu (on_runs call b next).changes
-unfolding dos_alloc_huge dos_realloc_huge dos_get_huge_shift
-on_runs_moves DosAllocHuge b next =
-    let a : ℕ → ℕ = argument b.view b.cpu in
-    either b (has_arguments b.view b.cpu 6) _ _ (allocated_moves b next (a 5) (a 4) (a 3) (a 2) (a 1) (a 0)) (NoRun refl)
-on_runs_moves DosReallocHuge b next =
-    let a : ℕ → ℕ = argument b.view b.cpu in
-    either b (has_arguments b.view b.cpu 3) _ _ (reallocated_moves b next (a 2) (a 1) (a 0)) (NoRun refl)
-on_runs_moves DosGetHugeShift b next =
-    let a : ℕ → ℕ = argument b.view b.cpu in
-    either b (has_arguments b.view b.cpu 2) _ _
-    (either b (may_write b.view (a 1) (a 0) 2) _ _
-    (ruled_moves b next 2 (codes "DosGetHugeShift") (Far (a 1) (a 0) ∷ []) (written_word (a 1) (a 0) huge_shift) (record { error = 0; value = huge_shift; changes = [] }) (λ cpu. NoRun refl)) (NoRun refl)) (NoRun refl)
+-- What each ruling on a run changes, by the words of its call.
 
--- They are those of a ruling.
+pub huge_allocation_is : RuledMoves huge_allocation_by
+huge_allocation_is = record { moves = λ b a c same. OneRun (huge_moves b _ (a 5) (a 4) (a 0) (a 1)) (OfAllocation (a 5) (a 4) (a 1) (a 0) refl) }
 
-one_of : (b : Before) (t : Bool) (e f : Effect) → AreOfRuling b e.changes → AreOfRuling b f.changes → AreOfRuling b (cond t e f).changes
-one_of b true e f h k = h
-one_of b false e f h k = k
-
-ruled_of : (b : Before) (next words : ℕ) (name : List ℕ) (args : List Argument) (t : Written) (r : Ruling) → AreOfRuling b r.changes → AreOfRuling b (ruled_at b next words name args t r).changes
-ruled_of b next words name args t r h = one_of b (r.error == 0) _ _ h (OfNone refl)
-
-allocated_of : (b : Before) (next segs part s o most flags : ℕ) → AreOfRuling b (allocated_huge b next segs part s o most flags).changes
-allocated_of b next segs part s o most flags =
-    let r = huge_allocation b.known b.number segs part most flags in
-    one_of b (may_write b.view s o 2) _ _
-    (ruled_of b next 6 (codes "DosAllocHuge") (huge_args segs part s o most flags) (written_word s o r.value) r (OfAllocation segs part most flags refl)) (OfNone refl)
-
-pub on_runs_ruled : (call : HugeCall) (b : Before) (next : ℕ) → AreOfRuling b (on_runs call b next).changes
-unfolding dos_alloc_huge dos_realloc_huge dos_get_huge_shift
-on_runs_ruled DosAllocHuge b next =
-    let a : ℕ → ℕ = argument b.view b.cpu in
-    one_of b (has_arguments b.view b.cpu 6) _ _ (allocated_of b next (a 5) (a 4) (a 3) (a 2) (a 1) (a 0)) (OfNone refl)
-on_runs_ruled DosReallocHuge b next =
-    let a : ℕ → ℕ = argument b.view b.cpu in
-    one_of b (has_arguments b.view b.cpu 3) _ _ (OfReallocation (a 2) (a 1) (a 0) refl) (OfNone refl)
-on_runs_ruled DosGetHugeShift b next =
-    let a : ℕ → ℕ = argument b.view b.cpu in
-    one_of b (has_arguments b.view b.cpu 2) _ _
-    (one_of b (may_write b.view (a 1) (a 0) 2) _ _
-    (ruled_of b next 2 (codes "DosGetHugeShift") (Far (a 1) (a 0) ∷ []) (written_word (a 1) (a 0) huge_shift) (record { error = 0; value = huge_shift; changes = [] }) (OfNone refl)) (OfNone refl)) (OfNone refl)
+pub huge_reallocation_is : RuledMoves huge_reallocation_by
+huge_reallocation_is = record { moves = λ b a c same. OneRun (reallocated_moves b (a 2) (a 1) (a 0) c same) (OfReallocation (a 2) (a 1) (a 0) refl) }

@@ -3,6 +3,7 @@ pub mod Numbers
 pub mod Staying
 pub mod Sizes
 pub mod Rows
+pub mod Serving
 pub mod Flags
 pub mod Quiet
 pub mod Reached
@@ -22,6 +23,7 @@ pub mod SharedMoves
 pub mod HugeMoves
 pub mod FitShares
 pub mod FitRuns
+pub mod Lawful
 pub mod StepMoves
 pub mod MovesFit
 pub mod RunsFit

@@ -1,15 +1,16 @@
 -- Steps that change nothing but bytes.
-use Rattle.std.proofs.Common.{◌≡◌, ℕ, zero, suc, ◌-◌, Bool, true, false, cond, if◌then◌else◌, ◌==◌, ◌&&◌, List, [], ◌∷◌, Option, Some, None, ap, refl, length, slice_set}
+use Rattle.std.proofs.Common.{◌≡◌, ℕ, zero, suc, ◌-◌, Bool, true, false, cond, if◌then◌else◌, ◌==◌, ◌&&◌, List, [], ◌∷◌, Option, ap, ◌∙◌, refl, slice_set}
 use Rattle.o2_conf.specs.Dispatch.{Dispatch}
-use Rattle.o2_world.specs.declared.types.Argument.{Argument}
-use Rattle.o2_world.specs.declared.types.Row.{Row}
-use Rattle.o2_world.specs.declared.types.Row.TheVariants.{DosExit, DosGetPid, DosRead, DosWrite, DosMemAvail, OnSegments, OnShared, OnRuns}
 use Rattle.o2_world.specs.World.{World, Process, is_live}
 use Rattle.o2_world.specs.Holders.{with_process}
 use Rattle.o2_world.specs.Changes.{at_place, at_number, with_changes, swept}
-use Rattle.o2_world.specs.Calls.{Before, Effect, argument, has_arguments, transfer_of, may_write, may_give, is_console, dos_write, dos_exit, told, may_take, dos_read, served_by, IsPlain}
+use Rattle.o2_world.specs.CallParts.{Before, Effect, argument}
+use Rattle.o2_world.specs.Outcomes.{CallRow, Does, Fails, Leaves, Outcome, come_out, served}
+use Rattle.o2_world.specs.Calls.{is_console, reading, served_by, writing}
+use Rattle.o2_world.specs.RowLaws.{ErrorChangesNothing, IsQuiet, changes_of}
 use Rattle.o2_world.specs.Effect.{has_trap_flag, single_stepped}
 use Rattle.o2_world.specs.Run.{changed, plainly, worked}
+use Rattle.o2_world.proofs.Serving.{by_parts, by_row}
 
 set_then : {X : Type 0} (xs : List X) (i : ℕ) (x : X) (f : X → X) → at_place i f (slice_set xs i x) ≡ slice_set xs i (f x)
 set_then [] i x f = refl
@@ -39,37 +40,36 @@ either : (t : Bool) (e f : Effect) → e.changes ≡ [] → f.changes ≡ [] →
 either true e f h k = h
 either false e f h k = k
 
-pub write_quiet : (b : Before) (next : ℕ) → (dos_write b next).changes ≡ []
-unfolding dos_write
-write_quiet b next =
-    let t = transfer_of (argument b.view b.cpu) in
-    either (has_arguments b.view b.cpu 6) _ _ (either (may_give b t) _ _ (either (is_console t.handle) _ _ refl refl) refl) refl
+-- a call changes what its row's outcome says
+pub changes_come : (r : CallRow) (b : Before) (next : ℕ) (a : ℕ → ℕ) (o : Outcome) → (come_out r b next a o).changes ≡ changes_of o
+changes_come r b next a (Fails error values) = refl
+changes_come r b next a (Does d) = refl
+changes_come r b next a (Leaves action code) = refl
 
-pub read_quiet : (b : Before) (next : ℕ) → (dos_read b next).changes ≡ []
-unfolding dos_read
-read_quiet b next =
-    let t = transfer_of (argument b.view b.cpu) in
-    either (has_arguments b.view b.cpu 6) _ _ (either (may_take b t) _ _ (either (t.handle == 0) _ _ refl refl) refl) refl
+pub served_quiet : (r : CallRow) (b : Before) (next : ℕ) → IsQuiet r → (served r b next).changes ≡ []
+served_quiet r b next quiet = by_parts (λ (e : Effect). e.changes ≡ []) r b next refl refl (λ lies good. changes_come r b next (argument b.view b.cpu) (r.outcome b (argument b.view b.cpu)) ∙ quiet b (argument b.view b.cpu))
 
-pub exit_quiet : (b : Before) → (dos_exit b).changes ≡ []
-unfolding dos_exit
-exit_quiet b = either (has_arguments b.view b.cpu 2) _ _ refl refl
+either_quiet : (t : Bool) (o q : Outcome) → changes_of o ≡ [] → changes_of q ≡ [] → changes_of (cond t o q) ≡ []
+either_quiet true o q h k = h
+either_quiet false o q h k = k
 
-pub told_quiet : (b : Before) (next : ℕ) (name part : List ℕ) (values : List Argument) → (told b next name part values).changes ≡ []
-unfolding told
-told_quiet b next name part values = either (has_arguments b.view b.cpu 2) _ _ (either (may_write b.view (argument b.view b.cpu 1) (argument b.view b.cpu 0) (length part)) _ _ refl refl) refl
+pub read_quiet : (b : Before) (a : ℕ → ℕ) → changes_of (reading b a) ≡ []
+read_quiet b a = either_quiet (a 5 == 0) _ _ refl refl
 
--- no call but those on segments changes anything but bytes
-pub served_quiet : (row : Option Row) (b : Before) (next : ℕ) → IsPlain row → (served_by row b next).changes ≡ []
-served_quiet None b next plain = refl
-served_quiet (Some DosExit) b next plain = exit_quiet b
-served_quiet (Some DosGetPid) b next plain = told_quiet b next _ _ _
-served_quiet (Some DosRead) b next plain = read_quiet b next
-served_quiet (Some DosWrite) b next plain = write_quiet b next
-served_quiet (Some DosMemAvail) b next plain = told_quiet b next _ _ _
-served_quiet (Some (OnSegments call)) b next plain = absurd plain
-served_quiet (Some (OnShared call)) b next plain = absurd plain
-served_quiet (Some (OnRuns call)) b next plain = absurd plain
+pub write_quiet : (b : Before) (a : ℕ → ℕ) → changes_of (writing b a) ≡ []
+write_quiet b a = either_quiet (is_console (a 5)) _ _ refl refl
+
+-- an error number changes nothing and writes nothing
+error_quiet : (b : Before) (r : CallRow) (next : ℕ) (a : ℕ → ℕ) (o : Outcome) → ErrorChangesNothing b (come_out r b next a o)
+error_quiet b r next a (Fails e vs) number name args error values rest line some =
+    record { changes = refl; bytes = refl; input = refl; piece = refl; state = refl; selectors = record { es = refl; cs = refl; ss = refl; ds = refl } }
+error_quiet b r next a (Does d) number name args error values rest line some = absurd (let none : error ≡ 0 = cc in some none)
+error_quiet b r next a (Leaves action code) number name args error values rest line some = absurd (cc)
+
+pub served_errors : (o : Option CallRow) (b : Before) (next : ℕ) → ErrorChangesNothing b (served_by o b next)
+served_errors o b next =
+    by_row (ErrorChangesNothing b) b next (λ number name args error values rest line some. absurd (cc)) (λ number name args error values rest line some. absurd (cc))
+    (λ r a good. error_quiet b r next a (r.outcome b a)) o
 
 -- nor does exception 1 behind a step
 pub single_quiet : (b : Before) (e : Effect) → e.changes ≡ [] → (single_stepped b e).changes ≡ []

@@ -1,37 +1,20 @@
 -- The lines of a step tell its changes, and of an end exactly where its process has ended.
-use Rattle.std.proofs.Common.{◌≡◌, ℕ, zero, suc, ◌+◌, ◌==◌, ◌&&◌, ◌||◌, not, nat_le, Bool, true, false, cond, List, [], ◌∷◌, ◌++◌, length, replicate, Option, Some, None, if◌then◌else◌, ap, sym, ◌∙◌, refl, arith}
-use Rattle.std.specs.Prelude.{Result, Ok, Err, flat_map, codes}
-use Rattle.o2_isa.specs.declared.cpu.Cpu.{Cpu}
+use Rattle.std.proofs.Common.{◌≡◌, ℕ, zero, suc, ◌+◌, ◌==◌, ◌&&◌, ◌||◌, not, nat_le, Bool, true, false, cond, List, [], ◌∷◌, ◌++◌, replicate, Option, if◌then◌else◌, ap, sym, ◌∙◌, refl, arith}
+use Rattle.std.specs.Prelude.{Result, Ok, Err, flat_map}
 use Rattle.o2_isa.specs.declared.cpu.Stop.{Stop}
 use Rattle.o2_isa.specs.declared.cpu.Stop.TheVariants as stop
 use Rattle.o2_isa.specs.Steps.{State as Machine, state}
 use Rattle.o2_isa.specs.Step.{stepped}
 use Rattle.o2_base.specs.Selectors.{selector_of}
-use Rattle.o2_world.specs.declared.types.Argument.{Argument}
-use Rattle.o2_world.specs.declared.types.Argument.TheVariants.{Word, Far}
 use Rattle.o2_world.specs.declared.types.State.TheVariants.{Trapped}
-use Rattle.o2_world.specs.declared.types.Row.{Row}
-use Rattle.o2_world.specs.declared.types.Row.TheVariants.{DosExit, DosGetPid, DosRead, DosWrite, DosMemAvail, OnSegments, OnShared, OnRuns}
-use Rattle.o2_world.specs.declared.types.SegmentCall.{SegmentCall}
-use Rattle.o2_world.specs.declared.types.SegmentCall.TheVariants.{DosAllocSeg, DosReallocSeg, DosFreeSeg, DosSizeSeg, DosLockSeg, DosUnlockSeg, DosCreateCsAlias}
-use Rattle.o2_world.specs.declared.types.HugeCall.{HugeCall}
-use Rattle.o2_world.specs.declared.types.HugeCall.TheVariants.{DosAllocHuge, DosReallocHuge, DosGetHugeShift}
-use Rattle.o2_world.specs.declared.types.SharedCall.{SharedCall}
-use Rattle.o2_world.specs.declared.types.SharedCall.TheVariants.{DosAllocShrSeg, DosGetShrSeg, DosGiveSeg, DosGetSeg}
-use Rattle.o2_world.specs.declared.types.Transfer.{Transfer}
 use Rattle.o2_world.specs.World.{Line, HoldsBy, DropsBy, Traps, is_live}
 use Rattle.o2_world.specs.Changes.{Change, Makes, Resizes, Locks, Marks, Holds, Drops, Finishes, Reserves, Frees, Names, among, drop_lines_of, hold_lines_of, in_order, key_of, moved_lines}
-use Rattle.o2_world.specs.Calls.{Before, Effect, trapped, argument, has_arguments, transfer_of, may_write, may_give, is_console, written, dos_write, dos_exit, told_at, told, may_take, read_from, dos_read, row_of, served_by}
-use Rattle.o2_world.specs.Rulings.{Ruling, aliasing, allocation, sizing}
-use Rattle.o2_world.specs.SegmentCalls.{Written, alloc_args, aliased, allocated, back, dos_alloc_seg, dos_create_cs_alias, dos_free_seg, dos_lock_seg, dos_realloc_seg, dos_size_seg, dos_unlock_seg, on_segments, ruled_at, sized, written_long, written_word}
-use Rattle.o2_world.specs.SharedNames.{may_read_text, name_by, text_at}
-use Rattle.o2_world.specs.SharedRulings.{giving, naming, sharing}
-use Rattle.o2_world.specs.SharedCalls.{dos_alloc_shr_seg, dos_get_seg, dos_get_shr_seg, dos_give_seg, give_args, given, name_args, named, on_shared, shared_by_name}
-use Rattle.o2_world.specs.HugeRulings.{huge_allocation, huge_shift}
-use Rattle.o2_world.specs.HugeCalls.{dos_alloc_huge, dos_get_huge_shift, dos_realloc_huge, huge_args, on_runs}
+use Rattle.o2_world.specs.CallParts.{Before, Effect, trapped}
+use Rattle.o2_world.specs.Outcomes.{CallRow, Does, Fails, Leaves, Outcome, come_out}
+use Rattle.o2_world.specs.Calls.{row_of, served_by}
 use Rattle.o2_world.specs.Effect.{has_trap_flag, answered, single_stepped, effect}
 use Rattle.o2_world.specs.Reach.{came, went, tells_end, Tells}
-use Rattle.o2_world.proofs.Quiet.{exit_quiet, read_quiet, told_quiet, write_quiet}
+use Rattle.o2_world.proofs.Serving.{by_row}
 use Rattle.o2_world.proofs.Reached.{came_append, went_append}
 use Rattle.o2_world.proofs.RunReach.{end_append}
 
@@ -40,10 +23,6 @@ record IsPlain (n : ℕ) (e : Effect) : Type 0 where
   comes : (q s : ℕ) → came e.lines q s ≡ 0
   goes : (q s : ℕ) → went e.lines q s ≡ 0
   ends : (q : ℕ) → tells_end e.lines q ≡ (not (is_live e.state) && (q == n))
-
-either : (n : ℕ) (t : Bool) (e f : Effect) → IsPlain n e → IsPlain n f → IsPlain n (cond t e f)
-either n true e f h k = h
-either n false e f h k = k
 
 neither : (a t : Bool) → a ≡ false → t ≡ false → (a || t) ≡ false
 neither true t e f = absurd (cc)
@@ -56,40 +35,6 @@ both_false false t e = (refl, e)
 one_end : (b : Bool) → (if b then true else false) ≡ b
 one_end true = refl
 one_end false = refl
-
-traps : (b : Before) (vector : ℕ) → IsPlain b.number (trapped b vector)
-traps b vector = record { comes = λ q s. refl; goes = λ q s. refl; ends = λ q. one_end (q == b.number) }
-
-written_plain : (b : Before) (next : ℕ) (t : Transfer) → IsPlain b.number (written b next t)
-written_plain b next t =
-    either b.number (may_give b t) _ _
-    (either b.number (is_console t.handle) _ _ (record { comes = λ q s. refl; goes = λ q s. refl; ends = λ q. refl }) (record { comes = λ q s. refl; goes = λ q s. refl; ends = λ q. refl })) (traps b 13)
-
-write_plain : (b : Before) (next : ℕ) → IsPlain b.number (dos_write b next)
-unfolding dos_write
-write_plain b next = either b.number (has_arguments b.view b.cpu 6) _ _ (written_plain b next (transfer_of (argument b.view b.cpu))) (traps b 12)
-
-read_from_plain : (b : Before) (next : ℕ) (t : Transfer) → IsPlain b.number (read_from b next t)
-read_from_plain b next t =
-    either b.number (may_take b t) _ _
-    (either b.number (t.handle == 0) _ _ (record { comes = λ q s. refl; goes = λ q s. refl; ends = λ q. refl }) (record { comes = λ q s. refl; goes = λ q s. refl; ends = λ q. refl })) (traps b 13)
-
-read_plain : (b : Before) (next : ℕ) → IsPlain b.number (dos_read b next)
-unfolding dos_read
-read_plain b next = either b.number (has_arguments b.view b.cpu 6) _ _ (read_from_plain b next (transfer_of (argument b.view b.cpu))) (traps b 12)
-
-exit_plain : (b : Before) → IsPlain b.number (dos_exit b)
-unfolding dos_exit
-exit_plain b = either b.number (has_arguments b.view b.cpu 2) _ _ (record { comes = λ q s. refl; goes = λ q s. refl; ends = λ q. one_end (q == b.number) }) (traps b 12)
-
-told_at_plain : (b : Before) (next : ℕ) (name part : List ℕ) (values : List Argument) (selector offset : ℕ)
-    → IsPlain b.number (told_at b next name part values selector offset)
-told_at_plain b next name part values selector offset =
-    either b.number (may_write b.view selector offset (length part)) _ _ (record { comes = λ q s. refl; goes = λ q s. refl; ends = λ q. refl }) (traps b 13)
-
-told_plain : (b : Before) (next : ℕ) (name part : List ℕ) (values : List Argument) → IsPlain b.number (told b next name part values)
-unfolding told
-told_plain b next name part values = either b.number (has_arguments b.view b.cpu 2) _ _ (told_at_plain b next name part values _ _) (traps b 12)
 
 -- Each row tells its changes.
 
@@ -174,110 +119,20 @@ moved_ends cause cs q =
     (ordered_ends (flat_map (hold_lines_of cause) cs) q (all_end (hold_lines_of cause) q (λ c. hold_ends cause c q) cs))
     (ordered_ends (flat_map (drop_lines_of cause) cs) q (all_end (drop_lines_of cause) q (λ c. drop_ends cause c q) cs))
 
-pub back_told : (b : Before) (cpu : Cpu) (bytes : ℕ → List ℕ) (name : List ℕ) (args : List Argument) (error : ℕ) (values : List Argument) (changes : List Change)
-    → IsToldBy b.number (back b cpu bytes name args error values changes)
-back_told b cpu bytes name args error values changes = record {
-  tells = record { cause = name; came_by = λ q t. omega arith; went_by = λ q t. omega arith };
-  ends = λ q. moved_ends name changes q;
+come_told : (r : CallRow) (b : Before) (next : ℕ) (a : ℕ → ℕ) (o : Outcome) → IsToldBy b.number (come_out r b next a o)
+come_told r b next a (Fails error values) = quiet_told b.number (come_out r b next a (Fails error values)) refl (record { comes = λ q s. refl; goes = λ q s. refl; ends = λ q. refl })
+come_told r b next a (Does d) = record {
+  tells = record { cause = r.name; came_by = λ q t. omega arith; went_by = λ q t. omega arith };
+  ends = λ q. moved_ends r.name d.changes q;
 }
+come_told r b next a (Leaves action code) =
+    quiet_told b.number (come_out r b next a (Leaves action code)) refl (record { comes = λ q s. refl; goes = λ q s. refl; ends = λ q. one_end (q == b.number) })
 
-pub told_either : (n : ℕ) (t : Bool) (e f : Effect) → IsToldBy n e → IsToldBy n f → IsToldBy n (cond t e f)
-told_either n true e f h k = h
-told_either n false e f h k = k
+trap_told : (b : Before) (vector : ℕ) → IsToldBy b.number (trapped b vector)
+trap_told b vector = quiet_told b.number (trapped b vector) refl (record { comes = λ q s. refl; goes = λ q s. refl; ends = λ q. one_end (q == b.number) })
 
-pub trap_told : (b : Before) (vector : ℕ) → IsToldBy b.number (trapped b vector)
-trap_told b vector = quiet_told b.number (trapped b vector) refl (traps b vector)
-
-pub ruled_told : (b : Before) (next words : ℕ) (name : List ℕ) (args : List Argument) (t : Written) (r : Ruling) → IsToldBy b.number (ruled_at b next words name args t r)
-ruled_told b next words name args t r = told_either b.number (r.error == 0) _ _ (back_told b _ _ name args 0 _ r.changes) (back_told b _ _ name args r.error [] [])
-
-allocated_told : (b : Before) (next size s o flags : ℕ) → IsToldBy b.number (allocated b next size s o flags)
-allocated_told b next size s o flags =
-    let r = allocation b.known b.number size flags in
-    told_either b.number (may_write b.view s o 2) _ _ (ruled_told b next 4 (codes "DosAllocSeg") (alloc_args size s o flags) (written_word s o r.value) r) (trap_told b 13)
-
-sized_told : (b : Before) (next selector s o : ℕ) → IsToldBy b.number (sized b next selector s o)
-sized_told b next selector s o =
-    let r = sizing b.known b.number selector in
-    told_either b.number (may_write b.view s o 4) _ _ (ruled_told b next 3 (codes "DosSizeSeg") (Word selector ∷ Far s o ∷ []) (written_long s o r.value) r) (trap_told b 13)
-
-aliased_told : (b : Before) (next selector s o : ℕ) → IsToldBy b.number (aliased b next selector s o)
-aliased_told b next selector s o =
-    let r = aliasing b.known b.number selector in
-    told_either b.number (may_write b.view s o 2) _ _ (ruled_told b next 3 (codes "DosCreateCSAlias") (Word selector ∷ Far s o ∷ []) (written_word s o r.value) r) (trap_told b 13)
-
-on_segments_told : (call : SegmentCall) (b : Before) (next : ℕ) → IsToldBy b.number (on_segments call b next)
-unfolding dos_alloc_seg dos_realloc_seg dos_free_seg dos_size_seg dos_lock_seg dos_unlock_seg dos_create_cs_alias
-on_segments_told DosAllocSeg b next =
-    let a : ℕ → ℕ = argument b.view b.cpu in
-    told_either b.number (has_arguments b.view b.cpu 4) _ _ (allocated_told b next (a 3) (a 2) (a 1) (a 0)) (trap_told b 12)
-on_segments_told DosReallocSeg b next = told_either b.number (has_arguments b.view b.cpu 2) _ _ (back_told b _ _ _ _ _ _ _) (trap_told b 12)
-on_segments_told DosFreeSeg b next = told_either b.number (has_arguments b.view b.cpu 1) _ _ (back_told b _ _ _ _ _ _ _) (trap_told b 12)
-on_segments_told DosSizeSeg b next =
-    let a : ℕ → ℕ = argument b.view b.cpu in
-    told_either b.number (has_arguments b.view b.cpu 3) _ _ (sized_told b next (a 2) (a 1) (a 0)) (trap_told b 12)
-on_segments_told DosLockSeg b next = told_either b.number (has_arguments b.view b.cpu 1) _ _ (back_told b _ _ _ _ _ _ _) (trap_told b 12)
-on_segments_told DosUnlockSeg b next = told_either b.number (has_arguments b.view b.cpu 1) _ _ (back_told b _ _ _ _ _ _ _) (trap_told b 12)
-on_segments_told DosCreateCsAlias b next =
-    let a : ℕ → ℕ = argument b.view b.cpu in
-    told_either b.number (has_arguments b.view b.cpu 3) _ _ (aliased_told b next (a 2) (a 1) (a 0)) (trap_told b 12)
-
-named_told : (b : Before) (next size n m s o : ℕ) → IsToldBy b.number (named b next size n m s o)
-named_told b next size n m s o =
-    let r = naming b.known b.number size (name_by (text_at b.view n m)) in
-    told_either b.number (may_read_text b.view n m && may_write b.view s o 2) _ _
-    (ruled_told b next 5 (codes "DosAllocShrSeg") (name_args size n m s o) (written_word s o r.value) r) (trap_told b 13)
-
-shared_told : (b : Before) (next n m s o : ℕ) → IsToldBy b.number (shared_by_name b next n m s o)
-shared_told b next n m s o =
-    let r = sharing b.known b.number (name_by (text_at b.view n m)) in
-    told_either b.number (may_read_text b.view n m && may_write b.view s o 2) _ _
-    (ruled_told b next 4 (codes "DosGetShrSeg") (Far n m ∷ Far s o ∷ []) (written_word s o r.value) r) (trap_told b 13)
-
-given_told : (b : Before) (next selector pid s o : ℕ) → IsToldBy b.number (given b next selector pid s o)
-given_told b next selector pid s o =
-    let r = giving b.known b.number selector pid in
-    told_either b.number (may_write b.view s o 2) _ _ (ruled_told b next 4 (codes "DosGiveSeg") (give_args selector pid s o) (written_word s o r.value) r) (trap_told b 13)
-
-on_shared_told : (call : SharedCall) (b : Before) (next : ℕ) → IsToldBy b.number (on_shared call b next)
-unfolding dos_alloc_shr_seg dos_get_shr_seg dos_give_seg dos_get_seg
-on_shared_told DosAllocShrSeg b next =
-    let a : ℕ → ℕ = argument b.view b.cpu in
-    told_either b.number (has_arguments b.view b.cpu 5) _ _ (named_told b next (a 4) (a 3) (a 2) (a 1) (a 0)) (trap_told b 12)
-on_shared_told DosGetShrSeg b next =
-    let a : ℕ → ℕ = argument b.view b.cpu in
-    told_either b.number (has_arguments b.view b.cpu 4) _ _ (shared_told b next (a 3) (a 2) (a 1) (a 0)) (trap_told b 12)
-on_shared_told DosGiveSeg b next =
-    let a : ℕ → ℕ = argument b.view b.cpu in
-    told_either b.number (has_arguments b.view b.cpu 4) _ _ (given_told b next (a 3) (a 2) (a 1) (a 0)) (trap_told b 12)
-on_shared_told DosGetSeg b next = told_either b.number (has_arguments b.view b.cpu 1) _ _ (back_told b _ _ _ _ _ _ _) (trap_told b 12)
-
-pub on_runs_told : (call : HugeCall) (b : Before) (next : ℕ) → IsToldBy b.number (on_runs call b next)
-unfolding dos_alloc_huge dos_realloc_huge dos_get_huge_shift
-on_runs_told DosAllocHuge b next =
-    let a : ℕ → ℕ = argument b.view b.cpu in
-    let r = huge_allocation b.known b.number (a 5) (a 4) (a 1) (a 0) in
-    told_either b.number (has_arguments b.view b.cpu 6) _ _
-    (told_either b.number (may_write b.view (a 3) (a 2) 2) _ _
-    (ruled_told b next 6 (codes "DosAllocHuge") (huge_args (a 5) (a 4) (a 3) (a 2) (a 1) (a 0)) (written_word (a 3) (a 2) r.value) r) (trap_told b 13)) (trap_told b 12)
-on_runs_told DosReallocHuge b next = told_either b.number (has_arguments b.view b.cpu 3) _ _ (back_told b _ _ _ _ _ _ _) (trap_told b 12)
-on_runs_told DosGetHugeShift b next =
-    let a : ℕ → ℕ = argument b.view b.cpu in
-    told_either b.number (has_arguments b.view b.cpu 2) _ _
-    (told_either b.number (may_write b.view (a 1) (a 0) 2) _ _
-    (ruled_told b next 2 (codes "DosGetHugeShift") (Far (a 1) (a 0) ∷ []) (written_word (a 1) (a 0) huge_shift) (record { error = 0; value = huge_shift; changes = [] })) (trap_told b 13))
-    (trap_told b 12)
-
-served_told : (row : Option Row) (b : Before) (next : ℕ) → IsToldBy b.number (served_by row b next)
-served_told None b next = trap_told b 13
-served_told (Some DosExit) b next = quiet_told b.number (dos_exit b) (exit_quiet b) (exit_plain b)
-served_told (Some DosGetPid) b next = quiet_told b.number _ (told_quiet b next _ _ _) (told_plain b next _ _ _)
-served_told (Some DosRead) b next = quiet_told b.number (dos_read b next) (read_quiet b next) (read_plain b next)
-served_told (Some DosWrite) b next = quiet_told b.number (dos_write b next) (write_quiet b next) (write_plain b next)
-served_told (Some DosMemAvail) b next = quiet_told b.number _ (told_quiet b next _ _ _) (told_plain b next _ _ _)
-served_told (Some (OnSegments call)) b next = on_segments_told call b next
-served_told (Some (OnShared call)) b next = on_shared_told call b next
-served_told (Some (OnRuns call)) b next = on_runs_told call b next
+pub served_told : (o : Option CallRow) (b : Before) (next : ℕ) → IsToldBy b.number (served_by o b next)
+served_told o b next = by_row (IsToldBy b.number) b next (trap_told b 12) (trap_told b 13) (λ r a good. come_told r b next a (r.outcome b a)) o
 
 answered_told : (b : Before) (r : Result Machine Stop) → IsToldBy b.number (answered b r)
 answered_told b (Ok s) = quiet_told b.number (answered b (Ok s)) refl (record { comes = λ q t. refl; goes = λ q t. refl; ends = λ q. refl })

@@ -1,30 +1,25 @@
 -- What each call on segments changes, by its shape.
-use Rattle.std.proofs.Common.{◌≡◌, ◌≢◌, ◌⊎◌, inl, inr, ℕ, zero, suc, ◌+◌, ◌<◌, ◌≤◌, ◌==◌, ◌/◌, ◌%◌, nat_lt, nat_le, not, ◌||◌, Bool, true, false, cond, List, [], ◌∷◌, Option, Some, None, if◌then◌else◌, ap, refl, arith, subst}
-use Rattle.std.specs.Prelude.{is_some, filter, map, min, codes}
+use Rattle.std.proofs.Common.{◌≡◌, ◌≢◌, ◌⊎◌, inl, inr, ℕ, zero, suc, ◌+◌, ◌<◌, ◌≤◌, ◌==◌, ◌/◌, ◌%◌, nat_lt, nat_le, not, ◌&&◌, ◌||◌, Bool, true, false, cond, List, [], ◌∷◌, Option, Some, None, if◌then◌else◌, ap, ◌∙◌, refl, arith, subst}
+use Rattle.std.specs.Prelude.{is_some, filter, map, min}
 use Rattle.o2_desc.specs.Bits.{is_writable}
 use Rattle.o2_desc.specs.Choice.{IsChosen, chosen}
 use Rattle.o2_desc.proofs.Choices.{chosen_law}
 use Rattle.o2_isa.specs.declared.cpu.Cpu.{Cpu}
+use Rattle.o2_isa.specs.Presence.{SameSelectors}
 use Rattle.o2_isa.specs.View.{is_local}
-use Rattle.o2_world.specs.declared.types.Argument.{Argument}
-use Rattle.o2_world.specs.declared.types.Argument.TheVariants.{Word, Far}
-use Rattle.o2_world.specs.declared.types.SegmentCall.{SegmentCall}
-use Rattle.o2_world.specs.declared.types.SegmentCall.TheVariants.{DosAllocSeg, DosReallocSeg, DosFreeSeg, DosSizeSeg, DosLockSeg, DosUnlockSeg, DosCreateCsAlias}
 use Rattle.o2_world.specs.World.{Held}
 use Rattle.o2_world.specs.Changes.{Drops}
 use Rattle.o2_world.specs.Known.{Known, Marks}
-use Rattle.o2_world.specs.CallParts.{Before, Effect, argument, has_arguments, may_write, returned}
-use Rattle.o2_world.specs.Rulings.{Ruling, aliasing, aliasing_at, aliasing_of, allocation, allocation_at, by_load, dropped_indexes, free_index, freed_cpu, freeing}
-use Rattle.o2_world.specs.Rulings.{freeing_of, full_size, grants, held_under, in_use, indexes, is_alias, is_discardable, is_gone, is_in_run, is_later, keeps_its_size}
-use Rattle.o2_world.specs.Rulings.{locking_of, locking_with, members, reallocation_of, reallocation_with, refusal, region_by, sizing, sizing_of, sizing_with}
+use Rattle.o2_world.specs.CallParts.{Before}
+use Rattle.o2_world.specs.Rulings.{Ruling, aliasing_at, aliasing_of, allocation, allocation_at, by_load, dropped_indexes, free_index, freed_cpu, freeing, freeing_cpu}
+use Rattle.o2_world.specs.Rulings.{freeing_of, full_size, grants, held_under, in_use, indexes, is_alias, is_discardable, is_gone, is_in_run, is_index, is_last, is_later, keeps_its_size}
+use Rattle.o2_world.specs.Rulings.{locking_of, locking_with, members, reallocation_of, reallocation_with, refusal, region_by, sizing_of, sizing_with}
 use Rattle.o2_world.specs.Rulings.{unlocking_of, unlocking_with}
-use Rattle.o2_world.specs.SegmentCalls.{Written, alloc_args, aliased, allocated, dos_alloc_seg, dos_create_cs_alias, dos_free_seg, dos_lock_seg, dos_realloc_seg, dos_size_seg, dos_unlock_seg, freed, on_segments, ruled_at, sized, written_long, written_word}
-use Rattle.o2_world.specs.Moves.{AreApart, AreMembers, Each, IsFreeIndex, IsFreeing, IsHeldAlone, Moves, NoneMoves, OneAliased, OneLocked, OneMade, OneSized, SomeFreed}
-
-either : (b : Before) (t : Bool) (e f : Effect) → Moves b e.cpu e.changes → Moves b f.cpu f.changes
-    → Moves b (cond t e f).cpu (cond t e f).changes
-either b true e f h k = h
-either b false e f h k = k
+use Rattle.o2_world.specs.HugeRulings.{names_one, without}
+use Rattle.o2_world.specs.Outcomes.{gone_indexes, is_gone as is_none_left}
+use Rattle.o2_world.specs.Calls.{aliasing_by, allocation_by, freeing_by, locking_by, reallocation_by, sizing_by, unlocking_by}
+use Rattle.o2_world.specs.Moves.{AreApart, AreMembers, Each, IsFreeIndex, IsFreeing, IsHeldAlone, Moves, NoneMoves, OneAliased, OneLocked, OneMade, OneSized, OwnMoves, SomeFreed}
+use Rattle.o2_world.specs.RowLaws.{RuledMoves}
 
 rules : (b : Before) (cpu : Cpu) (t : Bool) (r q : Ruling) → Moves b cpu r.changes → Moves b cpu q.changes → Moves b cpu (cond t r q).changes
 rules b cpu true r q h k = h
@@ -200,33 +195,74 @@ members_held k n i h there = go (h.reserved == 0)
     go true = (ap is_some there, tt)
     go false = kept_are (λ (j : ℕ). is_some (k.held n j)) (indexes h.first h.reserved)
 
+-- DS and ES that name an index of which the last hold goes become 0.
+
+names_gone : (k : Known) (n s : ℕ) (is : List ℕ) → names_one s (gone_indexes k (map (λ (i : ℕ). Drops n i 1) is)) ≡ is_gone k n is s
+names_gone k n s [] = refl
+names_gone k n s (i ∷ is) = one (names_gone k n s is) (k.held n i)
+  where
+    gone : List ℕ
+    gone = gone_indexes k (map (λ (j : ℕ). Drops n j 1) is)
+
+    go : names_one s gone ≡ is_gone k n is s → (t g : Bool) → (if g then (t || names_one s gone) else names_one s gone) ≡ ((t && g) || is_gone k n is s)
+    go later true true = refl
+    go later true false = later
+    go later false true = later
+    go later false false = later
+
+    listed : (g : Bool) → names_one s (if g then i ∷ gone else gone) ≡ (if g then (is_index s i || names_one s gone) else names_one s gone)
+    listed true = refl
+    listed false = refl
+
+    one : names_one s gone ≡ is_gone k n is s → (o : Option Held) → names_one s (if is_none_left 1 o then i ∷ gone else gone) ≡ ((is_index s i && is_last o) || is_gone k n is s)
+    one later None = listed false ∙ go later (is_index s i) false
+    one later (Some h) = listed (nat_le h.holds 1) ∙ go later (is_index s i) (nat_le h.holds 1)
+
 dropped_are : (n : ℕ) (is : List ℕ) → dropped_indexes (map (λ (i : ℕ). Drops n i 1) is) ≡ is
 dropped_are n [] = refl
 dropped_are n (i ∷ is) = ap (λ (js : List ℕ). i ∷ js) (dropped_are n is)
 
-module _ (b : Before) (next s : ℕ) where
-  -- the registers behind a free, by its ruling
-  abbrev behind : Ruling → Cpu → Cpu
-  behind r c = freed_cpu b.known b.number (dropped_indexes r.changes) c
+-- the registers behind a free
+clears : (k : Known) (n : ℕ) (c : Cpu) (is : List ℕ) → let cs = map (λ (i : ℕ). Drops n i 1) is in without c (gone_indexes k cs) ≡ freed_cpu k n (dropped_indexes cs) c
+clears k n c is =
+    rw (names_gone k n c.ds is, names_gone k n c.es is, dropped_are n is) refl
 
-  freeing_is : (error : ℕ) (is : List ℕ) → AreMembers b.known b.number is → AreApart is → Each (λ (j : ℕ). is_some (b.known.held b.number j) ≡ true) is
+pub free_clears : (k : Known) (n s : ℕ) (c : Cpu) → without c (gone_indexes k (freeing k n s c).changes) ≡ freeing_cpu k n s c
+free_clears k n s c = at (held_under k n s)
+  where
+    at : (o : Option Held) → without c (gone_indexes k (freeing_of k n s c o).changes) ≡ freed_cpu k n (dropped_indexes (freeing_of k n s c o).changes) c
+    at None = refl
+    at (Some h) = go (by_load h.cause || is_later (s / 8) h) (in_use c (members k n (s / 8) h))
+      where
+        go : (t u : Bool) → (let r : Ruling = if t then refusal 5 else (if u then refusal 5 else grants 0 (map (λ (i : ℕ). Drops n i 1) (members k n (s / 8) h))) in
+            without c (gone_indexes k r.changes) ≡ freed_cpu k n (dropped_indexes r.changes) c)
+        go true u = refl
+        go false true = refl
+        go false false = clears k n c (members k n (s / 8) h)
+
+module _ (b : Before) (s : ℕ) (c : Cpu) (same : SameSelectors c b.cpu) where
+  -- the registers behind a free, by its ruling
+  abbrev behind : Ruling → Cpu
+  behind r = without c (gone_indexes b.known r.changes)
+
+  freeing_is : (is : List ℕ) → AreMembers b.known b.number is → AreApart is → Each (λ (j : ℕ). is_some (b.known.held b.number j) ≡ true) is
       → in_use b.cpu is ≡ false
-      → IsFreeing b (behind (grants 0 (map (λ (i : ℕ). Drops b.number i 1) is)) (returned b.cpu next 1 error)) is
-  freeing_is error is all apart held unused = record {
+      → IsFreeing b (behind (grants 0 (map (λ (i : ℕ). Drops b.number i 1) is))) is
+  freeing_is is all apart held unused = record {
     members = all;
     apart = apart;
     held = held;
     unused = unused;
-    cs = refl;
-    ss = refl;
-    ds = ap (λ (js : List ℕ). if is_gone b.known b.number js b.cpu.ds then 0 else b.cpu.ds) (dropped_are b.number is);
-    es = ap (λ (js : List ℕ). if is_gone b.known b.number js b.cpu.es then 0 else b.cpu.es) (dropped_are b.number is);
+    cs = same.cs;
+    ss = same.ss;
+    ds = ap (λ (t : Bool). if t then 0 else c.ds) (names_gone b.known b.number c.ds is) ∙ ap (λ (x : ℕ). if is_gone b.known b.number is x then 0 else x) same.ds;
+    es = ap (λ (t : Bool). if t then 0 else c.es) (names_gone b.known b.number c.es is) ∙ ap (λ (x : ℕ). if is_gone b.known b.number is x then 0 else x) same.es;
   }
 
-  free_moves : (error : ℕ) (o : Option Held) → held_under b.known b.number s ≡ o
-      → Moves b (behind (freeing_of b.known b.number s (returned b.cpu next 1 error) o) (returned b.cpu next 1 error)) (freeing_of b.known b.number s b.cpu o).changes
-  free_moves error None e = NoneMoves refl
-  free_moves error (Some h) e = go (by_load h.cause || is_later (s / 8) h) (in_use b.cpu is) refl
+  free_moves : (o : Option Held) → held_under b.known b.number s ≡ o
+      → Moves b (behind (freeing_of b.known b.number s b.cpu o)) (freeing_of b.known b.number s b.cpu o).changes
+  free_moves None e = NoneMoves refl
+  free_moves (Some h) e = go (by_load h.cause || is_later (s / 8) h) (in_use b.cpu is) refl
     where
       is : List ℕ
       is = members b.known b.number (s / 8) h
@@ -235,55 +271,30 @@ module _ (b : Before) (next s : ℕ) where
       ds = grants 0 (map (λ (i : ℕ). Drops b.number i 1) is)
 
       go : (t u : Bool) → in_use b.cpu is ≡ u
-          → Moves b (behind (cond t (refusal 5) (cond u (refusal 5) ds)) (returned b.cpu next 1 error)) (cond t (refusal 5) (cond u (refusal 5) ds)).changes
+          → Moves b (behind (cond t (refusal 5) (cond u (refusal 5) ds))) (cond t (refusal 5) (cond u (refusal 5) ds)).changes
       go true u f = NoneMoves refl
       go false true f = NoneMoves refl
-      go false false f = SomeFreed is (freeing_is error is (record { index = s / 8; held = h; there = held_there b.known b.number s h e; are = refl }) (members_apart b.known b.number (s / 8) h) (members_held b.known b.number (s / 8) h (held_there b.known b.number s h e)) f) refl
+      go false false f = SomeFreed is (freeing_is is (record { index = s / 8; held = h; there = held_there b.known b.number s h e; are = refl }) (members_apart b.known b.number (s / 8) h) (members_held b.known b.number (s / 8) h (held_there b.known b.number s h e)) f) refl
 
-  freed_moves : Moves b (freed b next s).cpu (freed b next s).changes
-  freed_moves = free_moves (freeing b.known b.number s b.cpu).error (held_under b.known b.number s) refl
+-- What each ruling on a segment changes, by the words of its call.
 
--- The calls.
+pub allocation_is : RuledMoves allocation_by
+allocation_is = record { moves = λ b a c same. OwnMoves (allocation_moves b _ (a 3) (a 0)) }
 
-ruled_moves : (b : Before) (next words : ℕ) (name : List ℕ) (args : List Argument) (t : Written) (r : Ruling)
-    → ((cpu : Cpu) → Moves b cpu r.changes) → Moves b (ruled_at b next words name args t r).cpu (ruled_at b next words name args t r).changes
-ruled_moves b next words name args t r h = either b (r.error == 0) _ _ (h _) (NoneMoves refl)
+pub reallocation_is : RuledMoves reallocation_by
+reallocation_is = record { moves = λ b a c same. OwnMoves (realloc_moves b _ (a 1) (a 0) (held_under b.known b.number (a 0)) refl) }
 
-allocated_moves : (b : Before) (next size s o flags : ℕ) → Moves b (allocated b next size s o flags).cpu (allocated b next size s o flags).changes
-allocated_moves b next size s o flags =
-    let r = allocation b.known b.number size flags in
-    either b (may_write b.view s o 2) _ _
-    (ruled_moves b next 4 (codes "DosAllocSeg") (alloc_args size s o flags) (written_word s o r.value) r (λ cpu. allocation_moves b cpu size flags))
-    (NoneMoves refl)
+pub freeing_by_is : RuledMoves freeing_by
+freeing_by_is = record { moves = λ b a c same. OwnMoves (free_moves b (a 0) c same (held_under b.known b.number (a 0)) refl) }
 
-sized_moves : (b : Before) (next selector s o : ℕ) → Moves b (sized b next selector s o).cpu (sized b next selector s o).changes
-sized_moves b next selector s o =
-    let r = sizing b.known b.number selector in
-    either b (may_write b.view s o 4) _ _
-    (ruled_moves b next 3 (codes "DosSizeSeg") (Word selector ∷ Far s o ∷ []) (written_long s o r.value) r (λ cpu. size_moves b cpu (held_under b.known b.number selector)))
-    (NoneMoves refl)
+pub sizing_is : RuledMoves sizing_by
+sizing_is = record { moves = λ b a c same. OwnMoves (size_moves b _ (held_under b.known b.number (a 2))) }
 
-aliased_moves : (b : Before) (next selector s o : ℕ) → Moves b (aliased b next selector s o).cpu (aliased b next selector s o).changes
-aliased_moves b next selector s o =
-    let r = aliasing b.known b.number selector in
-    either b (may_write b.view s o 2) _ _
-    (ruled_moves b next 3 (codes "DosCreateCSAlias") (Word selector ∷ Far s o ∷ []) (written_word s o r.value) r (λ cpu. alias_moves b cpu selector (held_under b.known b.number selector) refl))
-    (NoneMoves refl)
+pub locking_is : RuledMoves locking_by
+locking_is = record { moves = λ b a c same. OwnMoves (lock_moves b _ (held_under b.known b.number (a 0))) }
 
-pub on_segments_moves : (call : SegmentCall) (b : Before) (next : ℕ) → Moves b (on_segments call b next).cpu (on_segments call b next).changes
-unfolding dos_alloc_seg dos_realloc_seg dos_free_seg dos_size_seg dos_lock_seg dos_unlock_seg dos_create_cs_alias
-on_segments_moves DosAllocSeg b next =
-    let a : ℕ → ℕ = argument b.view b.cpu in
-    either b (has_arguments b.view b.cpu 4) _ _ (allocated_moves b next (a 3) (a 2) (a 1) (a 0)) (NoneMoves refl)
-on_segments_moves DosReallocSeg b next =
-    let a : ℕ → ℕ = argument b.view b.cpu in
-    either b (has_arguments b.view b.cpu 2) _ _ (realloc_moves b _ (a 1) (a 0) (held_under b.known b.number (a 0)) refl) (NoneMoves refl)
-on_segments_moves DosFreeSeg b next = either b (has_arguments b.view b.cpu 1) _ _ (freed_moves b next (argument b.view b.cpu 0)) (NoneMoves refl)
-on_segments_moves DosSizeSeg b next =
-    let a : ℕ → ℕ = argument b.view b.cpu in
-    either b (has_arguments b.view b.cpu 3) _ _ (sized_moves b next (a 2) (a 1) (a 0)) (NoneMoves refl)
-on_segments_moves DosLockSeg b next = either b (has_arguments b.view b.cpu 1) _ _ (lock_moves b _ (held_under b.known b.number (argument b.view b.cpu 0))) (NoneMoves refl)
-on_segments_moves DosUnlockSeg b next = either b (has_arguments b.view b.cpu 1) _ _ (unlock_moves b _ (held_under b.known b.number (argument b.view b.cpu 0))) (NoneMoves refl)
-on_segments_moves DosCreateCsAlias b next =
-    let a : ℕ → ℕ = argument b.view b.cpu in
-    either b (has_arguments b.view b.cpu 3) _ _ (aliased_moves b next (a 2) (a 1) (a 0)) (NoneMoves refl)
+pub unlocking_is : RuledMoves unlocking_by
+unlocking_is = record { moves = λ b a c same. OwnMoves (unlock_moves b _ (held_under b.known b.number (a 0))) }
+
+pub aliasing_is : RuledMoves aliasing_by
+aliasing_is = record { moves = λ b a c same. OwnMoves (alias_moves b _ (a 2) (held_under b.known b.number (a 2)) refl) }

@@ -1,34 +1,25 @@
 -- What each call that shares segments changes, by its shape.
 use Rattle.std.proofs.Common.{◌≡◌, inl, inr, ℕ, ◌≤◌, ◌==◌, ◌/◌, nat_le, not, ◌&&◌, ◌||◌, Bool, true, false, cond, List, [], ◌∷◌, Option, Some, None, if◌then◌else◌, ap, sym, ◌∙◌, refl, arith, subst}
-use Rattle.std.specs.Prelude.{codes, is_some}
+use Rattle.std.specs.Prelude.{is_some}
 use Rattle.o2_base.specs.Selectors.{selector_of}
 use Rattle.o2_desc.specs.Bits.{has_bit}
 use Rattle.o2_desc.specs.Choice.{IsChosen}
 use Rattle.o2_desc.proofs.Choices.{chosen_law}
 use Rattle.o2_isa.specs.declared.cpu.Cpu.{Cpu}
 use Rattle.o2_isa.specs.View.{is_local}
-use Rattle.o2_world.specs.declared.types.Argument.{Argument}
-use Rattle.o2_world.specs.declared.types.Argument.TheVariants.{Far}
-use Rattle.o2_world.specs.declared.types.SharedCall.{SharedCall}
-use Rattle.o2_world.specs.declared.types.SharedCall.TheVariants.{DosAllocShrSeg, DosGetShrSeg, DosGiveSeg, DosGetSeg}
 use Rattle.o2_world.specs.World.{Held}
 use Rattle.o2_world.specs.Known.{Known, Marks}
-use Rattle.o2_world.specs.CallParts.{Before, Effect, argument, has_arguments, may_write}
+use Rattle.o2_world.specs.CallParts.{Before}
 use Rattle.o2_world.specs.Rulings.{Ruling, by_load, free_index, grants, held_under, is_later, members, refusal}
-use Rattle.o2_world.specs.SegmentCalls.{Written, ruled_at, written_word}
-use Rattle.o2_world.specs.SharedNames.{may_read_text, name_by, text_at}
-use Rattle.o2_world.specs.SharedRulings.{each_more, getting, getting_at, getting_from, giving, giving_of, held_by, holder, index_of, is_share, is_shared, is_shared_with, lacks_flag, marks_by_call, naming, naming_at, shared_from, sharing, sharing_at, sharing_from, sharing_of}
-use Rattle.o2_world.specs.SharedCalls.{dos_alloc_shr_seg, dos_get_seg, dos_get_shr_seg, dos_give_seg, give_args, given, name_args, named, on_shared, shared_by_name}
+use Rattle.o2_world.specs.SharedNames.{name_by, text_at}
+use Rattle.o2_world.specs.SharedRulings.{each_more, getting, getting_at, getting_from, giving_of, held_by, holder, index_of, is_share, is_shared, is_shared_with, lacks_flag, marks_by_call, naming, naming_at, shared_from, sharing, sharing_at, sharing_from, sharing_of}
+use Rattle.o2_world.specs.Calls.{getting_by, giving_by, naming_by, sharing_by}
 use Rattle.o2_world.specs.Moves.{AllMoves, Each, IsOfText, IsShared, NoneMoves, OneNamed, OwnMoves, SomeShared}
+use Rattle.o2_world.specs.RowLaws.{RuledMoves}
 use Rattle.o2_world.proofs.SegmentMoves.{free_by, held_there}
 
-pub none : (b : Before) (cpu : Cpu) → AllMoves b cpu []
+none : (b : Before) (cpu : Cpu) → AllMoves b cpu []
 none b cpu = OwnMoves (NoneMoves refl)
-
-pub either : (b : Before) (t : Bool) (e f : Effect) → AllMoves b e.cpu e.changes → AllMoves b f.cpu f.changes
-    → AllMoves b (cond t e f).cpu (cond t e f).changes
-either b true e f h k = h
-either b false e f h k = k
 
 rules : (b : Before) (cpu : Cpu) (t : Bool) (r q : Ruling) → AllMoves b cpu r.changes → AllMoves b cpu q.changes → AllMoves b cpu (cond t r q).changes
 rules b cpu true r q h k = h
@@ -164,43 +155,16 @@ module _ (b : Before) (cpu : Cpu) where
   getting_moves : (s : ℕ) → AllMoves b cpu (getting k b.number s).changes
   getting_moves s = rules b cpu (is_local s) _ _ (holder_moves (s / 8) (holder k (s / 8))) (none b cpu)
 
--- The calls.
+-- What each ruling on a shared segment changes, by the words of its call.
 
-ruled_moves : (b : Before) (next words : ℕ) (name : List ℕ) (args : List Argument) (t : Written) (r : Ruling)
-    → ((cpu : Cpu) → AllMoves b cpu r.changes) → AllMoves b (ruled_at b next words name args t r).cpu (ruled_at b next words name args t r).changes
-ruled_moves b next words name args t r h = either b (r.error == 0) _ _ (h _) (OwnMoves (NoneMoves refl))
+pub naming_is : RuledMoves naming_by
+naming_is = record { moves = λ b a c same. naming_moves b _ (a 4) (name_by (text_at b.view (a 3) (a 2))) }
 
-named_moves : (b : Before) (next size n m s o : ℕ) → AllMoves b (named b next size n m s o).cpu (named b next size n m s o).changes
-named_moves b next size n m s o =
-    let r = naming b.known b.number size (name_by (text_at b.view n m)) in
-    either b (may_read_text b.view n m && may_write b.view s o 2) _ _
-    (ruled_moves b next 5 (codes "DosAllocShrSeg") (name_args size n m s o) (written_word s o r.value) r (λ cpu. naming_moves b cpu size (name_by (text_at b.view n m))))
-    (OwnMoves (NoneMoves refl))
+pub sharing_is : RuledMoves sharing_by
+sharing_is = record { moves = λ b a c same. sharing_moves b _ (name_by (text_at b.view (a 3) (a 2))) }
 
-shared_moves : (b : Before) (next n m s o : ℕ) → AllMoves b (shared_by_name b next n m s o).cpu (shared_by_name b next n m s o).changes
-shared_moves b next n m s o =
-    let r = sharing b.known b.number (name_by (text_at b.view n m)) in
-    either b (may_read_text b.view n m && may_write b.view s o 2) _ _
-    (ruled_moves b next 4 (codes "DosGetShrSeg") (Far n m ∷ Far s o ∷ []) (written_word s o r.value) r (λ cpu. sharing_moves b cpu (name_by (text_at b.view n m))))
-    (OwnMoves (NoneMoves refl))
+pub giving_is : RuledMoves giving_by
+giving_is = record { moves = λ b a c same. given_moves b _ (a 3 / 8) (a 2) (held_under b.known b.number (a 3)) (λ h e. held_there b.known b.number (a 3) h e) }
 
-gift_moves : (b : Before) (next selector pid s o : ℕ) → AllMoves b (given b next selector pid s o).cpu (given b next selector pid s o).changes
-gift_moves b next selector pid s o =
-    let r = giving b.known b.number selector pid in
-    either b (may_write b.view s o 2) _ _
-    (ruled_moves b next 4 (codes "DosGiveSeg") (give_args selector pid s o) (written_word s o r.value) r (λ cpu. given_moves b cpu (selector / 8) pid (held_under b.known b.number selector) (λ h e. held_there b.known b.number selector h e)))
-    (OwnMoves (NoneMoves refl))
-
-pub on_shared_moves : (call : SharedCall) (b : Before) (next : ℕ) → AllMoves b (on_shared call b next).cpu (on_shared call b next).changes
-unfolding dos_alloc_shr_seg dos_get_shr_seg dos_give_seg dos_get_seg
-on_shared_moves DosAllocShrSeg b next =
-    let a : ℕ → ℕ = argument b.view b.cpu in
-    either b (has_arguments b.view b.cpu 5) _ _ (named_moves b next (a 4) (a 3) (a 2) (a 1) (a 0)) (OwnMoves (NoneMoves refl))
-on_shared_moves DosGetShrSeg b next =
-    let a : ℕ → ℕ = argument b.view b.cpu in
-    either b (has_arguments b.view b.cpu 4) _ _ (shared_moves b next (a 3) (a 2) (a 1) (a 0)) (OwnMoves (NoneMoves refl))
-on_shared_moves DosGiveSeg b next =
-    let a : ℕ → ℕ = argument b.view b.cpu in
-    either b (has_arguments b.view b.cpu 4) _ _ (gift_moves b next (a 3) (a 2) (a 1) (a 0)) (OwnMoves (NoneMoves refl))
-on_shared_moves DosGetSeg b next =
-    either b (has_arguments b.view b.cpu 1) _ _ (getting_moves b _ (argument b.view b.cpu 0)) (OwnMoves (NoneMoves refl))
+pub getting_is : RuledMoves getting_by
+getting_is = record { moves = λ b a c same. getting_moves b _ (a 0) }

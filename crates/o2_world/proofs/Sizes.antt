@@ -1,6 +1,6 @@
 -- The bytes that a step leaves to a name, before its changes, are as many as before.
-use Rattle.std.proofs.Common.{◌≡◌, ℕ, ◌+◌, ◌≤◌, ◌==◌, ◌&&◌, ◌||◌, nat_le, Bool, true, false, cond, List, [], ◌∷◌, ◌++◌, length, take, Option, Some, None, if◌then◌else◌, ap, sym, ◌∙◌, refl, arith, subst}
-use Rattle.std.specs.Prelude.{Result, Ok, Err, codes}
+use Rattle.std.proofs.Common.{◌≡◌, ℕ, ◌+◌, ◌-◌, ◌*◌, ◌≤◌, ◌==◌, ◌&&◌, ◌||◌, nat_le, Bool, true, false, cond, List, [], ◌∷◌, ◌++◌, length, Option, Some, None, if◌then◌else◌, ap, sym, ◌∙◌, refl, arith, subst}
+use Rattle.std.specs.Prelude.{Result, Ok, Err}
 use Rattle.std.proofs.lemmas.Grind.{common_steps}
 use Rattle.o2_isa.specs.declared.cpu.Stop.{Stop}
 use Rattle.o2_isa.specs.declared.cpu.Stop.TheVariants as stop
@@ -12,27 +12,18 @@ use Rattle.o2_isa.specs.Step.{stepped}
 use Rattle.o2_isa.specs.declared.cpu.Outcome.TheVariants as outcome
 use Rattle.o2_isa.specs.Sizes.{KeepsLengths}
 use Rattle.o2_isa.proofs.Sizes.{stays, behind, stepped_lengths}
-use Rattle.o2_world.specs.declared.types.Argument.{Argument}
-use Rattle.o2_world.specs.declared.types.Argument.TheVariants.{Word, Far}
-use Rattle.o2_world.specs.declared.types.Row.{Row}
-use Rattle.o2_world.specs.declared.types.Transfer.{Transfer}
-use Rattle.o2_world.specs.declared.types.SegmentCall.{SegmentCall}
-use Rattle.o2_world.specs.declared.types.SegmentCall.TheVariants.{DosAllocSeg, DosReallocSeg, DosFreeSeg, DosSizeSeg, DosLockSeg, DosUnlockSeg, DosCreateCsAlias}
-use Rattle.o2_world.specs.declared.types.HugeCall.{HugeCall}
-use Rattle.o2_world.specs.declared.types.HugeCall.TheVariants.{DosAllocHuge, DosReallocHuge, DosGetHugeShift}
-use Rattle.o2_world.specs.declared.types.SharedCall.{SharedCall}
-use Rattle.o2_world.specs.declared.types.SharedCall.TheVariants.{DosAllocShrSeg, DosGetShrSeg, DosGiveSeg, DosGetSeg}
-use Rattle.o2_world.specs.declared.types.Row.TheVariants.{DosExit, DosGetPid, DosRead, DosWrite, DosMemAvail, OnSegments, OnShared, OnRuns}
 use Rattle.o2_world.specs.World.{is_live}
-use Rattle.o2_world.specs.Calls.{Before, Effect, argument, has_arguments, transfer_of, may_write, may_give, put_at_pointer, word_bytes, is_console, written, dos_write, dos_exit, told_at, told, bytes_with, may_take, read_from, dos_read, row_of, served_by}
-use Rattle.o2_world.specs.Rulings.{Ruling, aliasing, allocation, sizing}
-use Rattle.o2_world.specs.SegmentCalls.{Written, alloc_args, aliased, allocated, dos_alloc_seg, dos_create_cs_alias, dos_free_seg, dos_lock_seg, dos_realloc_seg, dos_size_seg, dos_unlock_seg, on_segments, ruled_at, sized, written_long, written_word}
-use Rattle.o2_world.specs.SharedNames.{may_read_text, name_by, text_at}
-use Rattle.o2_world.specs.SharedRulings.{giving, naming, sharing}
-use Rattle.o2_world.specs.SharedCalls.{dos_alloc_shr_seg, dos_get_seg, dos_get_shr_seg, dos_give_seg, give_args, given, name_args, named, on_shared, shared_by_name}
-use Rattle.o2_world.specs.HugeRulings.{huge_allocation, huge_shift}
-use Rattle.o2_world.specs.HugeCalls.{dos_alloc_huge, dos_get_huge_shift, dos_realloc_huge, huge_args, on_runs}
+use Rattle.o2_world.specs.declared.types.Slot.{Slot}
+use Rattle.o2_world.specs.declared.types.Slot.TheVariants.{Word, Reads, Writes, Text, ToWord, ToLong, ToWords}
+use Rattle.o2_world.specs.CallParts.{Before, Effect, may_read, may_write, put_at_pointer}
+use Rattle.o2_world.specs.SharedNames.{text_size}
+use Rattle.o2_world.specs.Slots.{Pointer, are_good, pointers_in, put_all, targets_in, words_in}
+use Rattle.o2_world.specs.Outcomes.{CallRow, Does, Fails, Leaves, Outcome, come_out}
+use Rattle.o2_world.specs.Calls.{serviced}
+use Rattle.o2_world.specs.RowLaws.{AreFitParts, IsFitOutcome, IsLawful}
 use Rattle.o2_world.specs.Effect.{has_trap_flag, answered, effect}
+use Rattle.o2_world.proofs.Lawful.{lawful}
+use Rattle.o2_world.proofs.Serving.{by_service}
 
 same_name : (n m : ℕ) → (n == m) ≡ true → n ≡ m
 same_name n m e = grind arith
@@ -78,7 +69,7 @@ or_cases true b e f g = f refl
 or_cases false b e f g = g e
 
 -- where a pointer is good its range can be written
-abbrev fits : (ℕ → Option Hold) → (ℕ → List ℕ) → (s offset count : ℕ) → Bool
+abbrev pub fits : (ℕ → Option Hold) → (ℕ → List ℕ) → (s offset count : ℕ) → Bool
 fits held f s offset count = (count == 0) || has_range f is_writable offset count (bound_in held s)
 
 fits_by : (n p h : Bool) → (n || (p && h)) ≡ true → (n || h) ≡ true
@@ -109,42 +100,6 @@ still_writable held f g s offset count k e = go (count == 0) e
     go true e = refl
     go false e = still_range f g is_writable offset count (bound_in held s) k e
 
--- The rows.
-
-abbrev pub Keeps : Before → Effect → Type 0
-Keeps b e = KeepsLengths b.view.bytes e.bytes
-
-pub by_test : (b : Before) (t : Bool) (e f : Effect) → (t ≡ true → Keeps b e) → Keeps b f → Keeps b (cond t e f)
-by_test b true e f h k = h refl
-by_test b false e f h k = k
-
-both : (a b : Bool) → (a && b) ≡ true → (a ≡ true) × (b ≡ true)
-both true b e = (refl, e)
-both false b e = absurd (cc)
-
-told_at_sizes : (b : Before) (next : ℕ) (name part : List ℕ) (values : List Argument) (s offset : ℕ)
-    → Keeps b (told_at b next name part values s offset)
-told_at_sizes b next name part values s offset =
-    by_test b (may_write b.view s offset (length part)) _ _ (λ good. pointer_sizes b.view.held b.view.bytes s offset part (good_fits b.view s offset (length part) good)) (stays b.view.bytes)
-
-told_sizes : (b : Before) (next : ℕ) (name part : List ℕ) (values : List Argument) → Keeps b (told b next name part values)
-unfolding told
-told_sizes b next name part values = by_test b (has_arguments b.view b.cpu 2) _ _ (λ _. told_at_sizes b next name part values _ _) (stays b.view.bytes)
-
-written_sizes : (b : Before) (next : ℕ) (t : Transfer) → Keeps b (written b next t)
-written_sizes b next t =
-    by_test b (may_give b t) _ _
-    (λ good. by_test b (is_console t.handle) _ _
-    (λ _. pointer_sizes b.view.held b.view.bytes t.done_selector t.done_offset (word_bytes t.count) (good_fits b.view t.done_selector t.done_offset 2 (both _ _ good).1))
-    (stays b.view.bytes)) (stays b.view.bytes)
-
-write_sizes : (b : Before) (next : ℕ) → Keeps b (dos_write b next)
-unfolding dos_write
-write_sizes b next = by_test b (has_arguments b.view b.cpu 6) _ _ (λ _. written_sizes b next (transfer_of (argument b.view b.cpu))) (stays b.view.bytes)
-
-took : (n : ℕ) (xs : List ℕ) → length (take n xs) ≤ n
-took n xs = grind (arith, common_steps)
-
 -- fewer bytes than the pointer is good for
 fewer_range : (f : ℕ → List ℕ) (ok : ℕ → Bool) (offset n m : ℕ) (o : Option Hold) → n ≤ m → has_range f ok offset m o ≡ true
     → has_range f ok offset n o ≡ true
@@ -168,136 +123,69 @@ fewer_writable held f s offset n m h e = go (m == 0) (n == 0) (λ z. zero_by n m
     go false true z e = refl
     go false false z e = fewer_range f is_writable offset n m (bound_in held s) h e
 
-read_sizes : (b : Before) (next : ℕ) (t : Transfer) → Keeps b (read_from b next t)
-read_sizes b next t =
-    by_test b (may_take b t) _ _ (λ good. by_test b (t.handle == 0) _ _ (λ _. taken (both _ _ good)) (stays b.view.bytes)) (stays b.view.bytes)
-  where
-    held : ℕ → Option Hold
-    held = b.view.held
+-- Parts behind good pointers.
 
-    got : List ℕ
-    got = take t.count b.input
+abbrev pub AllFit : (ℕ → Option Hold) → (ℕ → List ℕ) → List Pointer → Type 0
+AllFit held f [] = Unit {0}
+AllFit held f (p ∷ ps) = (fits held f p.selector p.offset p.count ≡ true) × AllFit held f ps
 
-    taken : (may_write b.view t.selector t.offset t.count ≡ true) × (may_write b.view t.done_selector t.done_offset 2 ≡ true)
-        → KeepsLengths b.view.bytes (bytes_with b t got)
-    taken good =
-        let fits_buffer = good_fits b.view t.selector t.offset t.count good.0 in
-        let fits_done = good_fits b.view t.done_selector t.done_offset 2 good.1 in
-        let first = pointer_sizes held b.view.bytes t.selector t.offset got (fewer_writable held b.view.bytes t.selector t.offset (length got) t.count (took t.count b.input) fits_buffer) in
-        let second = put_at_pointer held b.view.bytes t.selector t.offset got in
-        behind _ _ _ first (pointer_sizes held second t.done_selector t.done_offset (word_bytes (length got))
-        (still_writable held b.view.bytes second t.done_selector t.done_offset 2 first fits_done))
+still_fit : (held : ℕ → Option Hold) (f g : ℕ → List ℕ) → KeepsLengths f g → (ps : List Pointer) → AllFit held f ps → AllFit held g ps
+still_fit held f g k [] all = tt
+still_fit held f g k (p ∷ ps) all = (still_writable held f g p.selector p.offset p.count k all.0, still_fit held f g k ps all.1)
 
-dos_read_sizes : (b : Before) (next : ℕ) → Keeps b (dos_read b next)
-unfolding dos_read
-dos_read_sizes b next = by_test b (has_arguments b.view b.cpu 6) _ _ (λ _. read_sizes b next (transfer_of (argument b.view b.cpu))) (stays b.view.bytes)
+pub put_all_sizes : (held : ℕ → Option Hold) (ps : List Pointer) (parts : List (List ℕ)) (f : ℕ → List ℕ) → AllFit held f ps → AreFitParts ps parts
+    → KeepsLengths f (put_all held ps parts f)
+put_all_sizes held [] parts f all few = stays f
+put_all_sizes held (p ∷ ps) [] f all few = stays f
+put_all_sizes held (p ∷ ps) (part ∷ parts) f all few =
+    let next = put_at_pointer held f p.selector p.offset part in
+    let first = pointer_sizes held f p.selector p.offset part (fewer_writable held f p.selector p.offset (length part) p.count few.0 all.0) in
+    behind _ _ _ first (put_all_sizes held ps parts next (still_fit held f next first ps all.1) few.1)
 
-exit_sizes : (b : Before) → Keeps b (dos_exit b)
-unfolding dos_exit
-exit_sizes b = by_test b (has_arguments b.view b.cpu 2) _ _ (λ _. stays b.view.bytes) (stays b.view.bytes)
+both : (a b : Bool) → (a && b) ≡ true → (a ≡ true) × (b ≡ true)
+both true b e = (refl, e)
+both false b e = absurd (cc)
 
--- the calls on segments change no size of a name that lived before but by their changes, which come behind the bytes
+first_fits : (v : View) (ss : List Slot) (a : ℕ → ℕ) (count : ℕ) → (let n = words_in ss in (may_write v (a (n + 1)) (a n) count && are_good v (pointers_in ss v a)) ≡ true)
+    → (let n = words_in ss in fits v.held v.bytes (a (n + 1)) (a n) count ≡ true) × (are_good v (pointers_in ss v a) ≡ true)
+first_fits v ss a count good =
+    let n = words_in ss in
+    let parts = both (may_write v (a (n + 1)) (a n) count) (are_good v (pointers_in ss v a)) good in
+    (good_fits v (a (n + 1)) (a n) count parts.0, parts.1)
 
-pub ruled_sizes : (b : Before) (next words : ℕ) (name : List ℕ) (args : List Argument) (t : Written) (r : Ruling)
-    → may_write b.view t.selector t.offset (length t.part) ≡ true → Keeps b (ruled_at b next words name args t r)
-ruled_sizes b next words name args t r good =
-    by_test b (r.error == 0) _ _ (λ _. pointer_sizes b.view.held b.view.bytes t.selector t.offset t.part (good_fits b.view t.selector t.offset (length t.part) good)) (stays b.view.bytes)
+-- the pointers that are for writing are among those that are tested
+pub targets_fit : (v : View) (ss : List Slot) (a : ℕ → ℕ) → are_good v (pointers_in ss v a) ≡ true → AllFit v.held v.bytes (targets_in ss a)
+targets_fit v [] a good = tt
+targets_fit v (Word ∷ ss) a good = targets_fit v ss a good
+targets_fit v (Reads ∷ ss) a good = targets_fit v ss a (both (may_read v (a (words_in ss + 1)) (a (words_in ss)) (a (words_in ss - 1))) (are_good v (pointers_in ss v a)) good).1
+targets_fit v (Text ∷ ss) a good =
+    let n = words_in ss in
+    targets_fit v ss a (both (may_read v (a (n + 1)) (a n) (text_size v (a (n + 1)) (a n))) (are_good v (pointers_in ss v a)) good).1
+targets_fit v (Writes ∷ ss) a good = let h = first_fits v ss a (a (words_in ss - 1)) good in (h.0, targets_fit v ss a h.1)
+targets_fit v (ToWord ∷ ss) a good = let h = first_fits v ss a 2 good in (h.0, targets_fit v ss a h.1)
+targets_fit v (ToLong ∷ ss) a good = let h = first_fits v ss a 4 good in (h.0, targets_fit v ss a h.1)
+targets_fit v (ToWords count ∷ ss) a good = let h = first_fits v ss a (2 * count) good in (h.0, targets_fit v ss a h.1)
 
-allocated_sizes : (b : Before) (next size s o flags : ℕ) → Keeps b (allocated b next size s o flags)
-allocated_sizes b next size s o flags =
-    let r = allocation b.known b.number size flags in
-    by_test b (may_write b.view s o 2) _ _ (λ good. ruled_sizes b next 4 (codes "DosAllocSeg") (alloc_args size s o flags) (written_word s o r.value) r good) (stays b.view.bytes)
+-- Each row keeps the sizes.
 
-sized_sizes : (b : Before) (next selector s o : ℕ) → Keeps b (sized b next selector s o)
-sized_sizes b next selector s o =
-    let r = sizing b.known b.number selector in
-    by_test b (may_write b.view s o 4) _ _ (λ good. ruled_sizes b next 3 (codes "DosSizeSeg") (Word selector ∷ Far s o ∷ []) (written_long s o r.value) r good) (stays b.view.bytes)
+abbrev pub Keeps : Before → Effect → Type 0
+Keeps b e = KeepsLengths b.view.bytes e.bytes
 
-aliased_sizes : (b : Before) (next selector s o : ℕ) → Keeps b (aliased b next selector s o)
-aliased_sizes b next selector s o =
-    let r = aliasing b.known b.number selector in
-    by_test b (may_write b.view s o 2) _ _ (λ good. ruled_sizes b next 3 (codes "DosCreateCSAlias") (Word selector ∷ Far s o ∷ []) (written_word s o r.value) r good) (stays b.view.bytes)
+come_sizes : (r : CallRow) (b : Before) (next : ℕ) (a : ℕ → ℕ) → are_good b.view (pointers_in r.slots b.view a) ≡ true → (o : Outcome) → IsFitOutcome (targets_in r.slots a) o
+    → Keeps b (come_out r b next a o)
+come_sizes r b next a good (Fails error values) few = stays b.view.bytes
+come_sizes r b next a good (Does d) few = put_all_sizes b.view.held (targets_in r.slots a) d.parts b.view.bytes (targets_fit b.view r.slots a good) few
+come_sizes r b next a good (Leaves action code) few = stays b.view.bytes
 
-on_segments_sizes : (call : SegmentCall) (b : Before) (next : ℕ) → Keeps b (on_segments call b next)
-unfolding dos_alloc_seg dos_realloc_seg dos_free_seg dos_size_seg dos_lock_seg dos_unlock_seg dos_create_cs_alias
-on_segments_sizes DosAllocSeg b next =
-    let a : ℕ → ℕ = argument b.view b.cpu in
-    by_test b (has_arguments b.view b.cpu 4) _ _ (λ _. allocated_sizes b next (a 3) (a 2) (a 1) (a 0)) (stays b.view.bytes)
-on_segments_sizes DosReallocSeg b next = by_test b (has_arguments b.view b.cpu 2) _ _ (λ _. stays b.view.bytes) (stays b.view.bytes)
-on_segments_sizes DosFreeSeg b next = by_test b (has_arguments b.view b.cpu 1) _ _ (λ _. stays b.view.bytes) (stays b.view.bytes)
-on_segments_sizes DosSizeSeg b next =
-    let a : ℕ → ℕ = argument b.view b.cpu in
-    by_test b (has_arguments b.view b.cpu 3) _ _ (λ _. sized_sizes b next (a 2) (a 1) (a 0)) (stays b.view.bytes)
-on_segments_sizes DosLockSeg b next = by_test b (has_arguments b.view b.cpu 1) _ _ (λ _. stays b.view.bytes) (stays b.view.bytes)
-on_segments_sizes DosUnlockSeg b next = by_test b (has_arguments b.view b.cpu 1) _ _ (λ _. stays b.view.bytes) (stays b.view.bytes)
-on_segments_sizes DosCreateCsAlias b next =
-    let a : ℕ → ℕ = argument b.view b.cpu in
-    by_test b (has_arguments b.view b.cpu 3) _ _ (λ _. aliased_sizes b next (a 2) (a 1) (a 0)) (stays b.view.bytes)
-
-named_sizes : (b : Before) (next size n m s o : ℕ) → Keeps b (named b next size n m s o)
-named_sizes b next size n m s o =
-    let r = naming b.known b.number size (name_by (text_at b.view n m)) in
-    by_test b (may_read_text b.view n m && may_write b.view s o 2) _ _
-    (λ good. ruled_sizes b next 5 (codes "DosAllocShrSeg") (name_args size n m s o) (written_word s o r.value) r (both (may_read_text b.view n m) (may_write b.view s o 2) good).1)
-    (stays b.view.bytes)
-
-shared_sizes : (b : Before) (next n m s o : ℕ) → Keeps b (shared_by_name b next n m s o)
-shared_sizes b next n m s o =
-    let r = sharing b.known b.number (name_by (text_at b.view n m)) in
-    by_test b (may_read_text b.view n m && may_write b.view s o 2) _ _
-    (λ good. ruled_sizes b next 4 (codes "DosGetShrSeg") (Far n m ∷ Far s o ∷ []) (written_word s o r.value) r (both (may_read_text b.view n m) (may_write b.view s o 2) good).1)
-    (stays b.view.bytes)
-
-given_sizes : (b : Before) (next selector pid s o : ℕ) → Keeps b (given b next selector pid s o)
-given_sizes b next selector pid s o =
-    let r = giving b.known b.number selector pid in
-    by_test b (may_write b.view s o 2) _ _ (λ good. ruled_sizes b next 4 (codes "DosGiveSeg") (give_args selector pid s o) (written_word s o r.value) r good) (stays b.view.bytes)
-
-on_shared_sizes : (call : SharedCall) (b : Before) (next : ℕ) → Keeps b (on_shared call b next)
-unfolding dos_alloc_shr_seg dos_get_shr_seg dos_give_seg dos_get_seg
-on_shared_sizes DosAllocShrSeg b next =
-    let a : ℕ → ℕ = argument b.view b.cpu in
-    by_test b (has_arguments b.view b.cpu 5) _ _ (λ _. named_sizes b next (a 4) (a 3) (a 2) (a 1) (a 0)) (stays b.view.bytes)
-on_shared_sizes DosGetShrSeg b next =
-    let a : ℕ → ℕ = argument b.view b.cpu in
-    by_test b (has_arguments b.view b.cpu 4) _ _ (λ _. shared_sizes b next (a 3) (a 2) (a 1) (a 0)) (stays b.view.bytes)
-on_shared_sizes DosGiveSeg b next =
-    let a : ℕ → ℕ = argument b.view b.cpu in
-    by_test b (has_arguments b.view b.cpu 4) _ _ (λ _. given_sizes b next (a 3) (a 2) (a 1) (a 0)) (stays b.view.bytes)
-on_shared_sizes DosGetSeg b next = by_test b (has_arguments b.view b.cpu 1) _ _ (λ _. stays b.view.bytes) (stays b.view.bytes)
-
-pub on_runs_sizes : (call : HugeCall) (b : Before) (next : ℕ) → KeepsLengths b.view.bytes (on_runs call b next).bytes
-unfolding dos_alloc_huge dos_realloc_huge dos_get_huge_shift
-on_runs_sizes DosAllocHuge b next =
-    let a : ℕ → ℕ = argument b.view b.cpu in
-    let r = huge_allocation b.known b.number (a 5) (a 4) (a 1) (a 0) in
-    by_test b (has_arguments b.view b.cpu 6) _ _
-    (λ _. by_test b (may_write b.view (a 3) (a 2) 2) _ _
-    (λ good. ruled_sizes b next 6 (codes "DosAllocHuge") (huge_args (a 5) (a 4) (a 3) (a 2) (a 1) (a 0)) (written_word (a 3) (a 2) r.value) r good)
-    (stays b.view.bytes)) (stays b.view.bytes)
-on_runs_sizes DosReallocHuge b next = by_test b (has_arguments b.view b.cpu 3) _ _ (λ _. stays b.view.bytes) (stays b.view.bytes)
-on_runs_sizes DosGetHugeShift b next =
-    let a : ℕ → ℕ = argument b.view b.cpu in
-    by_test b (has_arguments b.view b.cpu 2) _ _
-    (λ _. by_test b (may_write b.view (a 1) (a 0) 2) _ _
-    (λ good. ruled_sizes b next 2 (codes "DosGetHugeShift") (Far (a 1) (a 0) ∷ []) (written_word (a 1) (a 0) huge_shift) (record { error = 0; value = huge_shift; changes = [] }) good)
-    (stays b.view.bytes)) (stays b.view.bytes)
-
-served_sizes : (row : Option Row) (b : Before) (next : ℕ) → Keeps b (served_by row b next)
-served_sizes None b next = stays b.view.bytes
-served_sizes (Some DosExit) b next = exit_sizes b
-served_sizes (Some DosGetPid) b next = told_sizes b next _ _ _
-served_sizes (Some DosRead) b next = dos_read_sizes b next
-served_sizes (Some DosWrite) b next = write_sizes b next
-served_sizes (Some DosMemAvail) b next = told_sizes b next _ _ _
-served_sizes (Some (OnSegments call)) b next = on_segments_sizes call b next
-served_sizes (Some (OnShared call)) b next = on_shared_sizes call b next
-served_sizes (Some (OnRuns call)) b next = on_runs_sizes call b next
+pub serviced_sizes : (service : ℕ) (b : Before) (next : ℕ) → Keeps b (serviced b service next)
+serviced_sizes service b next =
+    by_service (Keeps b) IsLawful b next lawful (stays b.view.bytes) (stays b.view.bytes)
+    (λ r law a good. come_sizes r b next a good (r.outcome b a) (law.fits b a)) service
 
 answered_sizes : (b : Before) (r : Result Machine Stop) → stepped (state b.cpu b.view) ≡ r → Keeps b (answered b r)
 answered_sizes b (Ok s) e = stepped_lengths outcome.Done s (state b.cpu b.view) e
 answered_sizes b (Err (stop.Trap vector code)) e = stays b.view.bytes
-answered_sizes b (Err (stop.Gate service next)) e = served_sizes (row_of service) b next
+answered_sizes b (Err (stop.Gate service next)) e = serviced_sizes service b next
 answered_sizes b (Err (stop.Miss s)) e = stays b.view.bytes
 
 -- a step keeps the size of each name

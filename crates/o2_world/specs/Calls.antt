@@ -1,229 +1,174 @@
--- The calls of DOSCALLS by the OS/2 1.3 Programmer's Reference: for each its pointers in order, its conditions in order, its
--- error number, what it changes, and its line. Those on segments, those that share them, and those on huge allocations stand in
--- files of their own.
-use Rattle.std.specs.Prelude.{ℕ, ◌/◌, ◌%◌, Bool, List, [], ◌∷◌, ◌++◌, length, take, drop, not, if◌then◌else◌, ◌==◌, ◌&&◌, ◌||◌, Option, Some, None, codes}
-use Rattle.o2_world.specs.declared.types.Argument.{Argument}
-use Rattle.o2_world.specs.declared.types.Argument.TheVariants.{Word, Long, Far}
-use Rattle.o2_world.specs.declared.types.Transfer.{Transfer}
-use Rattle.o2_world.specs.declared.types.Row.{Row}
-use Rattle.o2_world.specs.declared.types.Row.TheVariants.{DosExit, DosGetPid, DosRead, DosWrite, DosMemAvail, OnSegments, OnShared, OnRuns}
-use Rattle.o2_world.specs.declared.types.State.TheVariants.{Live, Exited}
+-- The calls of DOSCALLS by the OS/2 1.3 Programmer's Reference, each a row of one table.
+use Rattle.std.specs.Prelude.{ℕ, ◌==◌, Bool, List, [], ◌∷◌, ◌++◌, length, take, drop, not, codes, if◌then◌else◌, ◌&&◌, ◌||◌, Option, Some, None}
+use Rattle.o2_world.specs.declared.types.Argument.TheVariants as shown
+use Rattle.o2_world.specs.declared.types.Slot.{Slot}
+use Rattle.o2_world.specs.declared.types.Slot.TheVariants.{Word, Reads, Writes, Text, ToWord, ToLong, ToWords}
 use Rattle.o2_world.specs.Map.{get}
-use Rattle.o2_world.specs.World.{Line, Calls, Exits, Ends}
+use Rattle.o2_world.specs.Rulings.{Ruling, grants, aliasing, allocation, freeing, locking, reallocation, sizing, unlocking}
+use Rattle.o2_world.specs.SharedNames.{name_by, text_at}
+use Rattle.o2_world.specs.SharedRulings.{getting, giving, naming, sharing}
+use Rattle.o2_world.specs.HugeRulings.{huge_allocation, huge_reallocation, huge_shift}
 pub use Rattle.o2_world.specs.CallParts.{Effect, Before, trapped, trap_code, word_of, has_arguments, word_bytes, long_bytes, returned, may_read, may_write}
 unfoldable pub use Rattle.o2_world.specs.CallParts.{argument, is_good, range_of, put_at_pointer}
-use Rattle.o2_world.specs.declared.types.SegmentCall.TheVariants.{DosAllocSeg, DosReallocSeg, DosFreeSeg, DosSizeSeg, DosLockSeg, DosUnlockSeg, DosCreateCsAlias}
-use Rattle.o2_world.specs.declared.types.SharedCall.TheVariants.{DosAllocShrSeg, DosGetShrSeg, DosGiveSeg, DosGetSeg}
-use Rattle.o2_world.specs.declared.types.HugeCall.TheVariants.{DosAllocHuge, DosReallocHuge, DosGetHugeShift}
-use Rattle.o2_world.specs.SegmentCalls.{on_segments}
-use Rattle.o2_world.specs.SharedCalls.{on_shared}
-use Rattle.o2_world.specs.HugeCalls.{on_runs}
+use Rattle.o2_world.specs.Slots.{are_good, pointers_in}
+use Rattle.o2_world.specs.Outcomes.{CallRow, Outcome, Does, Fails, Leaves, row, ruled, served}
 
--- A transfer: what DosRead and DosWrite are given.
-abbrev pub transfer_of : (argument : ℕ → ℕ) → Transfer
-transfer_of a = record {
-  handle = a 5;
-  selector = a 4;
-  offset = a 3;
-  count = a 2;
-  done_selector = a 1;
-  done_offset = a 0;
-}
+-- The rulings by the words of the call.
 
--- its line, with how many bytes went
-abbrev pub transfer_line : (name : List ℕ) → ℕ → Transfer → (error done : ℕ) → Line
-transfer_line name number t error done =
-    Calls number name
-    (Word t.handle ∷ Far t.selector t.offset ∷ Word t.count ∷ Far t.done_selector t.done_offset ∷ []) error
-    (Word done ∷ [])
+-- DosAllocSeg(size, psel, flags)
+abbrev pub allocation_by : Before → (ℕ → ℕ) → Ruling
+allocation_by b a = allocation b.known b.number (a 3) (a 0)
 
--- it is refused: nothing changes but AX and the stack
-abbrev pub not_transferred : (name : List ℕ) → Before → ℕ → Transfer → (done : ℕ) → Effect
-not_transferred name b next t done = record {
-  cpu = returned b.cpu next 6 6;
-  state = Live;
-  bytes = b.view.bytes;
-  changes = [];
-  input = b.input;
-  piece = [];
-  lines = transfer_line name b.number t 6 done ∷ [];
-}
+-- DosReallocSeg(size, sel)
+abbrev pub reallocation_by : Before → (ℕ → ℕ) → Ruling
+reallocation_by b a = reallocation b.known b.number (a 1) (a 0)
 
--- the bytes of all names after the number of those that went is written
-abbrev pub with_done : Before → Transfer → (ℕ → List ℕ) → (done : ℕ) → ℕ → List ℕ
-with_done b t bytes done = put_at_pointer b.view.held bytes t.done_selector t.done_offset (word_bytes done)
+-- DosFreeSeg(sel)
+abbrev pub freeing_by : Before → (ℕ → ℕ) → Ruling
+freeing_by b a = freeing b.known b.number (a 0) b.cpu
 
--- DosWrite(handle, buffer, count, pdone): 6 unless the handle is 1 or 2. The bytes go to the console, and their number is
--- written to pdone.
-abbrev pub write_line : ℕ → Transfer → (error : ℕ) → Line
-write_line number t error = transfer_line (codes "DosWrite") number t error t.count
+-- DosSizeSeg(sel, psize)
+abbrev pub sizing_by : Before → (ℕ → ℕ) → Ruling
+sizing_by b a = sizing b.known b.number (a 2)
 
-abbrev pub is_console : ℕ → Bool
-is_console handle = (handle == 1) || (handle == 2)
+-- DosLockSeg(sel)
+abbrev pub locking_by : Before → (ℕ → ℕ) → Ruling
+locking_by b a = locking b.known b.number (a 0)
 
--- both pointers of a DosWrite are good
-abbrev pub may_give : Before → Transfer → Bool
-may_give b t =
-    may_read b.view t.selector t.offset t.count && may_write b.view t.done_selector t.done_offset 2
+-- DosUnlockSeg(sel)
+abbrev pub unlocking_by : Before → (ℕ → ℕ) → Ruling
+unlocking_by b a = unlocking b.known b.number (a 0)
 
-abbrev pub gives : Before → ℕ → Transfer → Effect
-gives b next t = record {
-  cpu = returned b.cpu next 6 0;
-  state = Live;
-  bytes = with_done b t b.view.bytes t.count;
-  changes = [];
-  input = b.input;
-  piece = range_of b.view.held b.view.bytes t.selector t.offset t.count;
-  lines = write_line b.number t 0 ∷ [];
-}
+-- DosCreateCSAlias(sel, psel)
+abbrev pub aliasing_by : Before → (ℕ → ℕ) → Ruling
+aliasing_by b a = aliasing b.known b.number (a 2)
 
-abbrev pub written : Before → ℕ → Transfer → Effect
-written b next t =
-    if may_give b t
-    then (if is_console t.handle then gives b next t else not_transferred (codes "DosWrite") b next t t.count)
-    else trapped b 13
+-- DosAllocShrSeg(size, name, psel)
+abbrev pub naming_by : Before → (ℕ → ℕ) → Ruling
+naming_by b a = naming b.known b.number (a 4) (name_by (text_at b.view (a 3) (a 2)))
 
-unfoldable pub dos_write : Before → ℕ → Effect
-dos_write b next =
-    if has_arguments b.view b.cpu 6 then written b next (transfer_of (argument b.view b.cpu)) else trapped b 12
+-- DosGetShrSeg(name, psel)
+abbrev pub sharing_by : Before → (ℕ → ℕ) → Ruling
+sharing_by b a = sharing b.known b.number (name_by (text_at b.view (a 3) (a 2)))
+
+-- DosGiveSeg(sel, pid, psel)
+abbrev pub giving_by : Before → (ℕ → ℕ) → Ruling
+giving_by b a = giving b.known b.number (a 3) (a 2)
+
+-- DosGetSeg(sel)
+abbrev pub getting_by : Before → (ℕ → ℕ) → Ruling
+getting_by b a = getting b.known b.number (a 0)
+
+-- DosAllocHuge(segs, part, psel, max, flags)
+abbrev pub huge_allocation_by : Before → (ℕ → ℕ) → Ruling
+huge_allocation_by b a = huge_allocation b.known b.number (a 5) (a 4) (a 1) (a 0)
+
+-- DosReallocHuge(segs, part, sel)
+abbrev pub huge_reallocation_by : Before → (ℕ → ℕ) → Ruling
+huge_reallocation_by b a = huge_reallocation b.known b.number (a 2) (a 1) (a 0) b.cpu
+
+-- DosGetHugeShift(pshift)
+abbrev pub shift_by : Before → (ℕ → ℕ) → Ruling
+shift_by b a = grants huge_shift []
+
+-- DosMemAvail(psize): the number that the machine file gives
+abbrev pub avail_by : Before → (ℕ → ℕ) → Ruling
+avail_by b a = grants b.known.avail []
+
+-- The other calls.
 
 -- DosExit(action, code): the process ends with the code, whatever the action is
-unfoldable pub dos_exit : Before → Effect
-dos_exit b =
-    let code = argument b.view b.cpu 0 in
-    if has_arguments b.view b.cpu 2
-    then record {
-      cpu = b.cpu;
-      state = Exited code;
-      bytes = b.view.bytes;
-      changes = [];
-      input = b.input;
-      piece = [];
-      lines = Exits b.number (argument b.view b.cpu 1) code ∷ Ends b.number code ∷ [];
-    }
-    else trapped b 12
+abbrev pub exiting : Before → (ℕ → ℕ) → Outcome
+exiting b a = Leaves (a 1) (a 0)
 
--- A call with one pointer, behind which bytes are written; its line has values that tell the same.
-
-abbrev pub told_at : Before → ℕ → (name part : List ℕ) → List Argument → (selector offset : ℕ) → Effect
-told_at b next name part values selector offset =
-    if may_write b.view selector offset (length part)
-    then record {
-      cpu = returned b.cpu next 2 0;
-      state = Live;
-      bytes = put_at_pointer b.view.held b.view.bytes selector offset part;
-      changes = [];
-      input = b.input;
-      piece = [];
-      lines = Calls b.number name (Far selector offset ∷ []) 0 values ∷ [];
-    }
-    else trapped b 13
-
-unfoldable pub told : Before → ℕ → (name part : List ℕ) → List Argument → Effect
-told b next name part values =
-    let a : ℕ → ℕ = argument b.view b.cpu in
-    if has_arguments b.view b.cpu 2 then told_at b next name part values (a 1) (a 0) else trapped b 12
-
--- DosGetPID(pinfo): three words, the process's number, its thread's number 1, and its parent's number, which is 0 for a
--- process of the machine file
+-- DosGetPID(pinfo): three words, the process's number, its thread's number 1, and its parent's number, which is 0 for a process of
+-- the machine file
 abbrev pub pid_bytes : ℕ → List ℕ
 pid_bytes number = word_bytes number ++ word_bytes 1 ++ word_bytes 0
 
-abbrev pub dos_get_pid : Before → ℕ → Effect
-dos_get_pid b next = told b next (codes "DosGetPID") (pid_bytes b.number) (Word b.number ∷ Word 1 ∷ Word 0 ∷ [])
-
--- DosMemAvail(psize): the number that the machine file gives, as four bytes, and as one value of eight digits
-abbrev pub dos_mem_avail : Before → ℕ → Effect
-dos_mem_avail b next = told b next (codes "DosMemAvail") (long_bytes b.known.avail) (Long (b.known.avail / 65536) (b.known.avail % 65536) ∷ [])
-
--- DosRead(handle, buffer, count, pdone): 6 unless the handle is 0. The next bytes of the input go to the buffer, fewer than
--- count only where the input ends, and then their number is written to pdone.
-abbrev pub read_line : ℕ → Transfer → (error got : ℕ) → Line
-read_line number t error got = transfer_line (codes "DosRead") number t error got
-
--- the bytes after it: those of the input in the buffer, and then their number
-abbrev pub bytes_with : Before → Transfer → (got : List ℕ) → ℕ → List ℕ
-bytes_with b t got =
-    with_done b t (put_at_pointer b.view.held b.view.bytes t.selector t.offset got) (length got)
-
--- both pointers of a DosRead are good
-abbrev pub may_take : Before → Transfer → Bool
-may_take b t =
-    may_write b.view t.selector t.offset t.count && may_write b.view t.done_selector t.done_offset 2
-
--- these bytes of the input came, and that is left of it
-abbrev pub read_with : Before → ℕ → Transfer → (got left : List ℕ) → Effect
-read_with b next t got left = record {
-  cpu = returned b.cpu next 6 0;
-  state = Live;
-  bytes = bytes_with b t got;
+abbrev pub telling_pid : Before → (ℕ → ℕ) → Outcome
+telling_pid b a = Does (record {
+  values = shown.Word b.number ∷ shown.Word 1 ∷ shown.Word 0 ∷ [];
+  parts = pid_bytes b.number ∷ [];
   changes = [];
-  input = left;
+  input = b.input;
   piece = [];
-  lines = read_line b.number t 0 (length got) ∷ [];
-}
+})
 
-abbrev pub read_from : Before → ℕ → Transfer → Effect
-read_from b next t =
-    if may_take b t
-    then (if t.handle == 0
-    then read_with b next t (take t.count b.input) (drop t.count b.input)
-    else not_transferred (codes "DosRead") b next t 0)
-    else trapped b 13
+-- DosRead(handle, buffer, count, pdone): 6 unless the handle is 0. The next bytes of the input go to the buffer, fewer than count
+-- only where the input ends, and then their number is written to pdone.
+abbrev pub read_slots : List Slot
+read_slots = Word ∷ Writes ∷ Word ∷ ToWord ∷ []
 
-unfoldable pub dos_read : Before → ℕ → Effect
-dos_read b next =
-    if has_arguments b.view b.cpu 6 then read_from b next (transfer_of (argument b.view b.cpu)) else trapped b 12
+abbrev pub reading : Before → (ℕ → ℕ) → Outcome
+reading b a =
+    let got = take (a 2) b.input in
+    if a 5 == 0
+    then Does (record {
+      values = shown.Word (length got) ∷ [];
+      parts = got ∷ word_bytes (length got) ∷ [];
+      changes = [];
+      input = drop (a 2) b.input;
+      piece = [];
+    })
+    else Fails 6 (shown.Word 0 ∷ [])
 
--- a DosRead goes to the input: its pointers are good, its handle is 0, and it wants at least one byte
-abbrev pub asks_input : Before → Transfer → Bool
-asks_input b t = may_take b t && ((t.handle == 0) && not (t.count == 0))
+-- DosWrite(handle, buffer, count, pdone): 6 unless the handle is 1 or 2. The bytes go to the console, and their number is written
+-- to pdone.
+abbrev pub is_console : ℕ → Bool
+is_console handle = (handle == 1) || (handle == 2)
 
-unfoldable pub asks : Before → Bool
-asks b = has_arguments b.view b.cpu 6 && asks_input b (transfer_of (argument b.view b.cpu))
+abbrev pub writing : Before → (ℕ → ℕ) → Outcome
+writing b a =
+    if is_console (a 5)
+    then Does (record {
+      values = shown.Word (a 2) ∷ [];
+      parts = word_bytes (a 2) ∷ [];
+      changes = [];
+      input = b.input;
+      piece = range_of b.view.held b.view.bytes (a 4) (a 3) (a 2);
+    })
+    else Fails 6 (shown.Word (a 2) ∷ [])
 
--- The rows by the numbers of their services: each service that is built has one.
-
-abbrev pub rows : List (ℕ × Row)
+-- the rows by the numbers of their services: each service that is built has one
+abbrev pub rows : List (ℕ × CallRow)
 rows =
-    (1, DosExit) ∷ (2, DosGetPid) ∷ (3, DosRead) ∷ (4, DosWrite) ∷
-    (5, OnSegments DosAllocSeg) ∷ (6, OnSegments DosReallocSeg) ∷ (7, OnSegments DosFreeSeg) ∷ (8, OnSegments DosSizeSeg) ∷
-    (9, OnSegments DosLockSeg) ∷ (10, OnSegments DosUnlockSeg) ∷ (11, OnSegments DosCreateCsAlias) ∷
-    (12, OnShared DosAllocShrSeg) ∷ (13, OnShared DosGetShrSeg) ∷ (14, OnShared DosGiveSeg) ∷ (15, OnShared DosGetSeg) ∷
-    (16, OnRuns DosAllocHuge) ∷ (17, OnRuns DosReallocHuge) ∷ (18, OnRuns DosGetHugeShift) ∷
-    (19, DosMemAvail) ∷ []
+    (1, row (codes "DosExit") (Word ∷ Word ∷ []) exiting) ∷
+    (2, row (codes "DosGetPID") (ToWords 3 ∷ []) telling_pid) ∷
+    (3, row (codes "DosRead") read_slots reading) ∷
+    (4, row (codes "DosWrite") (Word ∷ Reads ∷ Word ∷ ToWord ∷ []) writing) ∷
+    (5, ruled (codes "DosAllocSeg") (Word ∷ ToWord ∷ Word ∷ []) allocation_by) ∷
+    (6, ruled (codes "DosReallocSeg") (Word ∷ Word ∷ []) reallocation_by) ∷
+    (7, ruled (codes "DosFreeSeg") (Word ∷ []) freeing_by) ∷
+    (8, ruled (codes "DosSizeSeg") (Word ∷ ToLong ∷ []) sizing_by) ∷
+    (9, ruled (codes "DosLockSeg") (Word ∷ []) locking_by) ∷
+    (10, ruled (codes "DosUnlockSeg") (Word ∷ []) unlocking_by) ∷
+    (11, ruled (codes "DosCreateCSAlias") (Word ∷ ToWord ∷ []) aliasing_by) ∷
+    (12, ruled (codes "DosAllocShrSeg") (Word ∷ Text ∷ ToWord ∷ []) naming_by) ∷
+    (13, ruled (codes "DosGetShrSeg") (Text ∷ ToWord ∷ []) sharing_by) ∷
+    (14, ruled (codes "DosGiveSeg") (Word ∷ Word ∷ ToWord ∷ []) giving_by) ∷
+    (15, ruled (codes "DosGetSeg") (Word ∷ []) getting_by) ∷
+    (16, ruled (codes "DosAllocHuge") (Word ∷ Word ∷ ToWord ∷ Word ∷ Word ∷ []) huge_allocation_by) ∷
+    (17, ruled (codes "DosReallocHuge") (Word ∷ Word ∷ Word ∷ []) huge_reallocation_by) ∷
+    (18, ruled (codes "DosGetHugeShift") (ToWord ∷ []) shift_by) ∷
+    (19, ruled (codes "DosMemAvail") (ToLong ∷ []) avail_by) ∷
+    []
 
-abbrev pub row_of : ℕ → Option Row
+unfoldable pub row_of : (service : ℕ) → Option CallRow
 row_of service = get rows service
 
--- the call by a row, which comes back to `next`
-abbrev pub served : Row → Before → ℕ → Effect
-served DosExit b next = dos_exit b
-served DosGetPid b next = dos_get_pid b next
-served DosRead b next = dos_read b next
-served DosWrite b next = dos_write b next
-served DosMemAvail b next = dos_mem_avail b next
-served (OnSegments call) b next = on_segments call b next
-served (OnShared call) b next = on_shared call b next
-served (OnRuns call) b next = on_runs call b next
-
 -- a number without a row is that of no call: its gate names nothing
-abbrev pub served_by : Option Row → Before → ℕ → Effect
+abbrev pub served_by : Option CallRow → Before → ℕ → Effect
 served_by None b next = trapped b 13
-served_by (Some row) b next = served row b next
+served_by (Some r) b next = served r b next
 
 -- the call of a service that comes back to `next`
 abbrev pub serviced : Before → ℕ → ℕ → Effect
 serviced b service next = served_by (row_of service) b next
 
--- a row that is no call on segments
-abbrev pub IsPlain : Option Row → Type 0
-IsPlain None = Unit {0}
-IsPlain (Some DosExit) = Unit {0}
-IsPlain (Some DosGetPid) = Unit {0}
-IsPlain (Some DosRead) = Unit {0}
-IsPlain (Some DosWrite) = Unit {0}
-IsPlain (Some DosMemAvail) = Unit {0}
-IsPlain (Some (OnSegments call)) = ⊥
-IsPlain (Some (OnShared call)) = ⊥
-IsPlain (Some (OnRuns call)) = ⊥
+-- a DosRead goes to the input: its pointers are good, its handle is 0, and it wants at least one byte
+abbrev pub asks_input : Before → (ℕ → ℕ) → Bool
+asks_input b a = are_good b.view (pointers_in read_slots b.view a) && ((a 5 == 0) && not (a 2 == 0))
+
+unfoldable pub asks : Before → Bool
+asks b = has_arguments b.view b.cpu 6 && asks_input b (argument b.view b.cpu)

@@ -3,18 +3,18 @@ use Rattle.std.specs.Prelude.{ℕ, List, [], ◌∷◌, Option, Some, None}
 use Rattle.o2_world.specs.World.{World, Process}
 use Rattle.o2_world.specs.Holders.{process_at, with_process}
 use Rattle.o2_world.specs.CallParts.{Before, Effect}
-use Rattle.o2_world.specs.HugeCalls.{allocated_huge, reallocated_huge, shift_told}
+use Rattle.o2_world.specs.SegmentsWorked.{calls}
 use Rattle.o2_world.specs.SharedWorked.{calls_of, two_sharers}
 
 -- the calls by their arguments, with values at 52 of the data
 abbrev pub huges : (segs part most flags : ℕ) → Before → Effect
-huges segs part most flags b = allocated_huge b 0 segs part 0x17 52 most flags
+huges segs part most flags = calls 16 (segs ∷ part ∷ 0x17 ∷ 52 ∷ most ∷ flags ∷ [])
 
 abbrev pub rehuges : (segs part selector : ℕ) → Before → Effect
-rehuges segs part selector b = reallocated_huge b 0 segs part selector
+rehuges segs part selector = calls 17 (segs ∷ part ∷ selector ∷ [])
 
 abbrev pub shifts : Before → Effect
-shifts b = shift_told b 0 0x17 52
+shifts = calls 18 (0x17 ∷ 52 ∷ [])
 
 -- a process with a selector in DS and ES
 abbrev pub with_data : (selector : ℕ) → Option Process → List Process → List Process

@@ -7,14 +7,14 @@ pub mod Changes
 pub mod Known
 pub mod CallParts
 pub mod Rulings
-pub mod SegmentCalls
 pub mod SharedNames
 pub mod SharedRulings
-pub mod SharedCalls
 pub mod HugeRulings
-pub mod HugeCalls
+pub mod Slots
+pub mod Outcomes
 pub mod Calls
 pub mod Moves
+pub mod RowLaws
 pub mod Bare
 pub mod Effect
 pub mod Run
@@ -32,4 +32,3 @@ pub mod SharedWorked
 pub mod HugeWorked
 pub mod SharedMarks
 pub mod EndWorked
-pub mod Words

@@ -1,14 +1,14 @@
 -- Rows of the calls that make, free and give segments, as the definitions compute them from the opening of `hello`.
-use Rattle.std.specs.Prelude.{ℕ, false, List, [], ◌∷◌, drop, length, Option, Some, None}
+use Rattle.std.specs.Prelude.{ℕ, false, List, [], ◌∷◌, drop, length, reverse, get_or, Option, Some, None}
 use Rattle.o2_conf.specs.Dispatch.{Dispatch}
 use Rattle.o2_desc.specs.Bits.{writable_data}
 use Rattle.o2_isa.specs.declared.cpu.Cpu.{Cpu}
 use Rattle.o2_world.specs.World.{World, Setting, Process, Held, ByCall}
 use Rattle.o2_world.specs.Holders.{process_at}
 use Rattle.o2_world.specs.Known.{Marks}
-use Rattle.o2_world.specs.Calls.{Before, Effect}
+use Rattle.o2_world.specs.Calls.{Before, Effect, row_of, trapped}
 use Rattle.o2_world.specs.Changes.{Change, Holds, Drops}
-use Rattle.o2_world.specs.SegmentCalls.{aliased, allocated, freed, locked, reallocated, sized, unlocked}
+use Rattle.o2_world.specs.Outcomes.{CallRow, worded}
 use Rattle.o2_world.specs.Run.{changed, before, next_dispatch}
 use Rattle.o2_world.specs.Views.{bytes_in}
 use Rattle.o2_world.specs.Text.{lines_text}
@@ -37,27 +37,40 @@ two_processes = opened (opening_of (hello_setting 1000000) [] [] [] (hello_proce
 abbrev pub told_after : ℕ → World → List (Before → Effect) → List ℕ
 told_after starts w rows = lines_text (drop starts (after_calls w rows).lines)
 
+-- A call of a service with these words, from the first to the last.
+
+-- the words from the top of the stack
+abbrev pub on_stack : List ℕ → ℕ → ℕ
+on_stack words i = get_or (reverse words) i 0
+
+abbrev pub worded_by : Option CallRow → List ℕ → Before → Effect
+worded_by None words b = trapped b 13
+worded_by (Some row) words b = worded row b 0 (on_stack words)
+
+unfoldable pub calls : (service : ℕ) → List ℕ → Before → Effect
+calls service words b = worded_by (row_of service) words b
+
 -- the calls by their arguments, with pointers into the data of `hello`
 abbrev pub allocs : (size flags : ℕ) → Before → Effect
-allocs size flags b = allocated b 0 size 0x17 0 flags
+allocs size flags = calls 5 (size ∷ 0x17 ∷ 0 ∷ flags ∷ [])
 
 abbrev pub reallocs : (size selector : ℕ) → Before → Effect
-reallocs size selector b = reallocated b 0 size selector
+reallocs size selector = calls 6 (size ∷ selector ∷ [])
 
 abbrev pub frees : (selector : ℕ) → Before → Effect
-frees selector b = freed b 0 selector
+frees selector = calls 7 (selector ∷ [])
 
 abbrev pub sizes : (selector : ℕ) → Before → Effect
-sizes selector b = sized b 0 selector 0x17 4
+sizes selector = calls 8 (selector ∷ 0x17 ∷ 4 ∷ [])
 
 abbrev pub locks : (selector : ℕ) → Before → Effect
-locks selector b = locked b 0 selector
+locks selector = calls 9 (selector ∷ [])
 
 abbrev pub unlocks : (selector : ℕ) → Before → Effect
-unlocks selector b = unlocked b 0 selector
+unlocks selector = calls 10 (selector ∷ [])
 
 abbrev pub aliases : (selector : ℕ) → Before → Effect
-aliases selector b = aliased b 0 selector 0x17 0
+aliases selector = calls 11 (selector ∷ 0x17 ∷ 0 ∷ [])
 
 abbrev pub told_by_one : List (Before → Effect) → List ℕ
 told_by_one rows = told_after 4 one_process rows
@@ -87,7 +100,7 @@ some_moves = Drops 2 4 1 ∷ Holds 2 5 (some_held 1) ∷ Holds 1 7 (some_held 2)
 -- the registers after the first process freed 0027 with this in DS and ES
 abbrev pub cpu_of : ℕ → Option Process → Option Cpu
 cpu_of s None = None
-cpu_of s (Some p) = Some (freed (before (hello_setting 1000000) (after_calls one_process (allocs 0 0 ∷ [])) 1 (record p { cpu = record p.cpu { ds = s; es = s } })) 0 0x27).cpu
+cpu_of s (Some p) = Some (frees 0x27 (before (hello_setting 1000000) (after_calls one_process (allocs 0 0 ∷ [])) 1 (record p { cpu = record p.cpu { ds = s; es = s } }))).cpu
 
 abbrev pub cpu_after : ℕ → Option Cpu
 cpu_after s = cpu_of s (process_at (after_calls one_process (allocs 0 0 ∷ [])).processes 1)

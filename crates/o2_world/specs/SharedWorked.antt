@@ -6,13 +6,12 @@ use Rattle.o2_world.specs.World.{World, Reserve}
 use Rattle.o2_world.specs.Holders.{process_at}
 use Rattle.o2_world.specs.Changes.{Finishes, with_all}
 use Rattle.o2_world.specs.CallParts.{Before, Effect}
-use Rattle.o2_world.specs.SharedCalls.{given, got, named, shared_by_name}
 use Rattle.o2_world.specs.Run.{next_dispatch}
 use Rattle.o2_world.specs.Views.{bytes_in}
 use Rattle.o2_world.specs.Text.{lines_text}
 use Rattle.o2_world.specs.Starts.{Loaded, Start, opening_of}
 use Rattle.o2_world.specs.Hello.{hello, hello_code, hello_process, hello_setting, opened}
-use Rattle.o2_world.specs.SegmentsWorked.{called_at}
+use Rattle.o2_world.specs.SegmentsWorked.{calls, called_at}
 
 -- \sharemem\a at 0, \SHAREMEM\A at 12, \sharemem\ alone at 24, one with a blank at 35, and zeros from 49 on
 abbrev pub names_data : List ℕ
@@ -55,16 +54,16 @@ one_left = with_all two_sharers (Finishes 1 (Exited 0) ∷ [])
 
 -- the calls by their arguments, with pointers into the data: names by their offsets, and values at 52
 abbrev pub names : (size at : ℕ) → Before → Effect
-names size at b = named b 0 size 0x17 at 0x17 52
+names size at = calls 12 (size ∷ 0x17 ∷ at ∷ 0x17 ∷ 52 ∷ [])
 
 abbrev pub shares : (at : ℕ) → Before → Effect
-shares at b = shared_by_name b 0 0x17 at 0x17 52
+shares at = calls 13 (0x17 ∷ at ∷ 0x17 ∷ 52 ∷ [])
 
 abbrev pub gives : (selector pid : ℕ) → Before → Effect
-gives selector pid b = given b 0 selector pid 0x17 52
+gives selector pid = calls 14 (selector ∷ pid ∷ 0x17 ∷ 52 ∷ [])
 
 abbrev pub gets : (selector : ℕ) → Before → Effect
-gets selector b = got b 0 selector
+gets selector = calls 15 (selector ∷ [])
 
 -- a byte of a name behind calls
 abbrev pub byte_behind : World → List (ℕ × (Before → Effect)) → (name at : ℕ) → ℕ

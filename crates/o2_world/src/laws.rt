@@ -12,18 +12,21 @@ ghost use Rattle.o2_world.specs.Map.{get};
 ghost use Rattle.o2_world.specs.World.{Process, Segment, is_live};
 ghost use Rattle.o2_world.specs.Holders.{process_at, with_process};
 ghost use Rattle.std.specs.Prelude.{is_some, None};
-ghost use Rattle.o2_base.specs.Services.{is_built};
-ghost use Rattle.o2_world.specs.Calls.{row_of, served_by};
+ghost use Rattle.o2_base.specs.Services.{ServiceRow, is_built, row_at};
+ghost use Rattle.o2_isa.specs.declared.cpu.Cpu.{Cpu};
+ghost use Rattle.o2_isa.specs.Presence.{SameSelectors};
+ghost use Rattle.o2_world.specs.HugeRulings.{huge_allocation, huge_reallocation, without};
+ghost use Rattle.o2_world.specs.Outcomes.{CallRow, gone_indexes};
+ghost use Rattle.o2_world.specs.RowLaws.{ErrorChangesNothing};
+ghost use Rattle.o2_world.specs.Slots.{words_in};
+ghost use Rattle.o2_world.specs.Calls.{row_of, serviced};
 ghost use Rattle.o2_world.specs.CallParts.{Before};
-ghost use Rattle.o2_world.specs.declared.types.Row.{Row};
 ghost use Rattle.o2_world.specs.Effect.{effect};
 ghost use Rattle.o2_world.specs.Moves.{AllMoves, AllSpare, AreSpared, RunMoves};
 ghost use Rattle.o2_world.specs.Giving.{GivesNothing};
-ghost use Rattle.o2_world.specs.declared.types.HugeCall.{HugeCall};
-ghost use Rattle.o2_world.specs.HugeCalls.{on_runs};
 ghost use Rattle.o2_isa.specs.SegmentLoads.{LoadsByRules};
 ghost use Rattle.o2_isa.specs.Sizes.{KeepsLengths};
-ghost use Rattle.std.specs.Prelude.{Option};
+ghost use Rattle.std.specs.Prelude.{option_map};
 ghost use Rattle.o2_world.specs.Known.{is_for_the_run};
 ghost use Rattle.o2_world.specs.SharedMarks.{shared_marks, some_marks};
 ghost use Rattle.o2_world.specs.EndWorked.{before_ends, one_ended, both_ended, names_in, texts_in, runs_in};
@@ -38,13 +41,11 @@ ghost use Rattle.o2_world.specs.Tied.{IsTied, IsSwept, IsSound, AreFitChanges};
 ghost use Rattle.o2_world.specs.NewNames.{UsesNewNames};
 ghost use Rattle.o2_world.specs.Text.{lines_text};
 ghost use Rattle.o2_world.specs.Rulings.{grants, locking_with, unlocking_with};
-ghost use Rattle.o2_world.specs.SegmentCalls.{allocated, freed};
-ghost use Rattle.o2_world.specs.SharedCalls.{given};
 ghost use Rattle.o2_world.specs.SharedNames.{before_zero, looked_at, name_by};
 ghost use Rattle.o2_world.specs.SharedWorked.{byte_behind, gets, gives, lines_behind, names as names_of, one_left, reserves_behind, shares, texts_behind, told_by_two, two_sharers};
 ghost use Rattle.o2_world.specs.HugeWorked.{data_behind, huges, loaded_behind, rehuges, shifts};
 ghost use Rattle.std.specs.Prelude.{replicate, take};
-ghost use Rattle.o2_world.specs.SegmentsWorked.{some_moves, es_after, ds_after, one_process, two_processes, told_after, told_by_one, data_after, allocs, allocs_of, reallocs, frees, sizes, locks, unlocks, aliases, names_with, locked_marks};
+ghost use Rattle.o2_world.specs.SegmentsWorked.{some_moves, es_after, ds_after, one_process, two_processes, told_after, told_by_one, data_after, allocs, allocs_of, reallocs, frees, sizes, locks, unlocks, aliases, calls, names_with, locked_marks};
 ghost use Rattle.o2_world.specs.Hello.{hello_opening, hello_world, hello_setting, hello_report, hello_start, hello_write, text_of};
 
 /// A program that writes `hello` by DosWrite and ends by DosExit takes ten steps. Its console and its report are these,
@@ -114,7 +115,7 @@ pub fn other_processes_stay()
 /// No call takes anything from a process but its own: of all others registers, state, place, parent and environment stay, and
 /// what they hold they go on to hold, as often at least.
 pub fn no_call_takes_from_another_process()
-    ensures rows { (row : Option Row) (b : Before) (next : ℕ) → AllSpare b.number (served_by row b next).changes }
+    ensures rows { (service : ℕ) (b : Before) (next : ℕ) → AllSpare b.number (serviced b service next).changes }
     ensures spares { (w : World) (d : Dispatch) (p : Process) (e : Effect) → AllSpare d.current e.changes
         → (place : ℕ) → place + 1 ≢ d.current
         → AreSpared (slice_get w.processes place) (slice_get (changed w d p e).processes place) }
@@ -134,15 +135,15 @@ pub fn the_budget_counts_the_steps()
 
 /// The lines of calls that make, free and give segments, from the opening of `hello`.
 pub fn segment_calls_tell_their_holds()
-    ensures makes { told_after 4 one_process ((λ b. allocated b 0 0 0x17 0 0) ∷ [])
+    ensures makes { told_after 4 one_process (allocs 0 0 ∷ [])
         ≡ text_of (codes "1 call DosAllocSeg 0000 0017:0000 0000 = 0 0027" ∷ codes "1 hold 0027 by DosAllocSeg" ∷ []) }
-    ensures frees { told_after 4 one_process ((λ b. allocated b 0 0 0x17 0 0) ∷ (λ b. freed b 0 0x27)
-        ∷ (λ b. freed b 0 0x27) ∷ [])
+    ensures frees { told_after 4 one_process (allocs 0 0 ∷ frees 0x27
+        ∷ frees 0x27 ∷ [])
         ≡ text_of (codes "1 call DosAllocSeg 0000 0017:0000 0000 = 0 0027" ∷ codes "1 hold 0027 by DosAllocSeg"
         ∷ codes "1 call DosFreeSeg 0027 = 0" ∷ codes "1 drop 0027 by DosFreeSeg" ∷ codes "1 call DosFreeSeg 0027 = 5"
         ∷ []) }
-    ensures gives { told_after 8 two_processes ((λ b. allocated b 0 16 0x17 0 1) ∷ (λ b. given b 0 0x8007 2 0x17 0)
-        ∷ (λ b. given b 0 0x8004 3 0x17 0) ∷ [])
+    ensures gives { told_after 8 two_processes (allocs 16 1 ∷ calls 14 (0x8007 ∷ 2 ∷ 0x17 ∷ 0 ∷ [])
+        ∷ calls 14 (0x8004 ∷ 3 ∷ 0x17 ∷ 0 ∷ []) ∷ [])
         ≡ text_of (codes "1 call DosAllocSeg 0010 0017:0000 0001 = 0 8007" ∷ codes "1 hold 8007 by DosAllocSeg"
         ∷ codes "1 call DosGiveSeg 8007 0002 0017:0000 = 0 8007" ∷ codes "2 hold 8007 by DosGiveSeg"
         ∷ codes "1 call DosGiveSeg 8004 0003 0017:0000 = 303" ∷ []) }
@@ -373,8 +374,8 @@ pub fn fit_changes_keep_a_world_tied()
 /// share segments, a new shared segment with a name, or a hold more of each of some shared segments, for a process that lives. In a
 /// sound world these changes are fit, and where none takes a hold all that lives behind them is held.
 pub fn what_calls_change_is_fit()
-    ensures shape { (row : Option Row) (b : Before) (next : ℕ)
-        → AllMoves b (served_by row b next).cpu (served_by row b next).changes }
+    ensures shape { (service : ℕ) (b : Before) (next : ℕ)
+        → AllMoves b (serviced b service next).cpu (serviced b service next).changes }
     ensures steps { (b : Before) → AllMoves b (effect b).cpu (effect b).changes }
     ensures fit { (s : Setting) (w : World) (d : Dispatch) (p : Process) (e : Effect)
         → process_at w.processes d.current ≡ Some p → is_live p.state ≡ true → is_live (working p e).state ≡ true
@@ -389,17 +390,30 @@ pub fn what_calls_change_is_fit()
         → list_any takes e.changes ≡ false → IsSwept (with_changes (worked w d p e) e.changes) }
 {}
 
-/// The calls on huge allocations: each loads segment registers by the load rules or leaves them, keeps the size of what lived before,
-/// but for its changes, and tells its changes. What it changes is one of these: nothing; a new run, which is reserved, with members
-/// of which the caller holds each; or of a run the sizes of members, new members for each of its holders, and members that go,
-/// which neither CS nor SS names, with DS and ES 0 where they named one. In a sound world these changes are fit, can be told,
-/// and where none takes a hold all that lives behind them is held, and each run that is reserved.
+/// Each call loads segment registers by the load rules or leaves them, keeps the size of what lived before, but for its changes, and
+/// tells its changes.
+pub fn each_call_keeps_sizes_and_tells_its_changes()
+    ensures registers { (service : ℕ) (b : Before) (next : ℕ) → LoadsByRules b.view b.cpu (serviced b service next).cpu }
+    ensures sizes { (service : ℕ) (b : Before) (next : ℕ) → KeepsLengths b.view.bytes (serviced b service next).bytes }
+    ensures lines { (service : ℕ) (b : Before) (next : ℕ) → Tells (serviced b service next) }
+{}
+
+/// Where the line of a call has an error, no name, map or lock changes, nothing is written, no input goes, and the process goes on
+/// with its selectors.
+pub fn an_error_changes_nothing()
+    ensures { (service : ℕ) (b : Before) (next : ℕ) → ErrorChangesNothing b (serviced b service next) }
+{}
+
+/// What the calls on huge allocations change is one of these: nothing; a new run, which is reserved, with members of which the caller
+/// holds each; or of a run the sizes of members, new members for each of its holders, and members that go, which neither CS nor SS
+/// names, with DS and ES 0 where they named one. In a sound world these changes are fit, can be told, and where none takes a hold all
+/// that lives behind them is held, and each run that is reserved.
 pub fn what_huge_calls_change_is_fit()
-    ensures registers { (call : HugeCall) (b : Before) (next : ℕ) → LoadsByRules b.view b.cpu (on_runs call b next).cpu }
-    ensures sizes { (call : HugeCall) (b : Before) (next : ℕ) → KeepsLengths b.view.bytes (on_runs call b next).bytes }
-    ensures lines { (call : HugeCall) (b : Before) (next : ℕ) → Tells (on_runs call b next) }
-    ensures shape { (call : HugeCall) (b : Before) (next : ℕ)
-        → RunMoves b (on_runs call b next).cpu (on_runs call b next).changes }
+    ensures makes { (b : Before) (cpu : Cpu) (segs part most flags : ℕ)
+        → RunMoves b cpu (huge_allocation b.known b.number segs part most flags).changes }
+    ensures sizes { (b : Before) (segs part selector : ℕ) (cpu : Cpu) → SameSelectors cpu b.cpu
+        → let r = huge_reallocation b.known b.number segs part selector b.cpu in
+        RunMoves b (without cpu (gone_indexes b.known r.changes)) r.changes }
     ensures fit { (s : Setting) (w : World) (d : Dispatch) (p : Process) (e : Effect)
         → process_at w.processes d.current ≡ Some p → is_live p.state ≡ true → is_live (working p e).state ≡ true
         → HasGoodRegisters (working p e)
@@ -426,9 +440,11 @@ pub fn changes_go_by_no_bytes()
         → bare (worked w d p e) ≡ bare w }
 {}
 
-/// Each service that is built has a row, and no other.
+/// Each service that is built has a row, and no other. The row has the name of its service, and as many words.
 pub fn each_service_that_is_built_has_a_row()
-    ensures { (service : ℕ) → is_some (row_of service) ≡ is_built service }
+    ensures built { (service : ℕ) → is_some (row_of service) ≡ is_built service }
+    ensures named { (service : ℕ) (r : CallRow) → row_of service ≡ Some r
+        → option_map {U = List ℕ × ℕ} (λ (s : ServiceRow). (s.name, s.words)) (row_at service) ≡ Some (r.name, words_in r.slots) }
 {}
 
 /// Code is not marked as shared, read-only data and data that is one for all processes are, and what each process has for itself

@@ -16,4 +16,4 @@ pub use laws::{
     what_huge_calls_change_is_fit, what_is_held_is_the_reach_of_the_report, what_is_held_is_told,
     what_is_reserved_for_the_run_stays,
 };
-pub use types::{Argument, HugeCall, Made, Row, SegmentCall, SharedCall, State, Transfer};
+pub use types::{Argument, Made, Slot, State};

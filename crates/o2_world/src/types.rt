@@ -11,46 +11,23 @@ pub enum State {
     Trapped(u8),
 }
 
-/// A row of the calls, each that of one service.
+/// An argument of a call, by what it is for. One that is no pointer is a word.
 #[derive(Clone, Copy, Debug, PartialEq, Eq)]
-pub enum Row {
-    DosExit,
-    DosGetPid,
-    DosRead,
-    DosWrite,
-    DosMemAvail,
-    OnSegments(SegmentCall),
-    OnShared(SharedCall),
-    OnRuns(HugeCall),
-}
-
-/// A call that makes, sizes, frees, locks or aliases a segment.
-#[derive(Clone, Copy, Debug, PartialEq, Eq)]
-pub enum SegmentCall {
-    DosAllocSeg,
-    DosReallocSeg,
-    DosFreeSeg,
-    DosSizeSeg,
-    DosLockSeg,
-    DosUnlockSeg,
-    DosCreateCsAlias,
-}
-
-/// A call by which processes share segments.
-#[derive(Clone, Copy, Debug, PartialEq, Eq)]
-pub enum SharedCall {
-    DosAllocShrSeg,
-    DosGetShrSeg,
-    DosGiveSeg,
-    DosGetSeg,
-}
-
-/// A call on a huge allocation, which is a run of selectors.
-#[derive(Clone, Copy, Debug, PartialEq, Eq)]
-pub enum HugeCall {
-    DosAllocHuge,
-    DosReallocHuge,
-    DosGetHugeShift,
+pub enum Slot {
+    /// A word.
+    Word,
+    /// A pointer to bytes that are read, as many as the word behind it says.
+    Reads,
+    /// A pointer to bytes that are written, at most as many as the word behind it says.
+    Writes,
+    /// A pointer to a text that a zero byte ends.
+    Text,
+    /// A pointer behind which a word is written.
+    ToWord,
+    /// A pointer behind which four bytes are written, the low word first.
+    ToLong,
+    /// A pointer behind which so many words are written.
+    ToWords(u16),
 }
 
 /// An argument of a call, or a value that a call wrote, as the report prints it.
@@ -62,21 +39,6 @@ pub enum Argument {
     Long(u16, u16),
     /// A far pointer: selector and offset.
     Far(u16, u16),
-}
-
-/// What DosRead and DosWrite are given: a handle, a buffer with the most bytes that go through it, and where the number of those
-/// that did is written.
-#[derive(Clone, Copy, Debug, PartialEq, Eq)]
-pub struct Transfer {
-    pub handle: u16,
-    /// The buffer.
-    pub selector: u16,
-    pub offset: u16,
-    /// Its bytes.
-    pub count: u16,
-    /// Where the number goes, as a word.
-    pub done_selector: u16,
-    pub done_offset: u16,
 }
 
 /// The name of a segment that all processes share: code, read-only data, or data that is one for all.

@@ -12,7 +12,8 @@ use Rattle.o2_isa.specs.FlowCalls.{call_far}
 use Rattle.o2_isa.specs.Meaning.{group_of, steps_of}
 use Rattle.o2_isa.specs.Step.{stepped}
 use Rattle.o2_world.specs.Holders.{holds_name}
-use Rattle.o2_world.specs.Calls.{argument, is_good, range_of, put_at_pointer, dos_write, dos_exit}
+use Rattle.o2_world.specs.Calls.{argument, is_good, range_of, put_at_pointer, row_of}
+use Rattle.o2_world.specs.Outcomes.{served}
 use Rattle.o2_world.specs.Effect.{effect}
 use Rattle.o2_world.specs.Changes.{holds_run, with_changes}
 use Rattle.o2_world.specs.Run.{changed, step}
@@ -25,7 +26,7 @@ use Rattle.o2_alone.proofs.laws.two_hellos_run_as_alone.Goals as goal
 among_is : pointers (events_of 2 (trace in_turns two_hellos 20)) ≡ hello_pointers
 unfolding built_gates probe_of bind read_of room_of poke size_at fetched reg16 table table_0f groups mark head_of decoded valued
     pair_valued storing within pushing push call_far group_of steps_of stepped holds_name argument is_good range_of
-    put_at_pointer dos_write dos_exit effect holds_run with_changes changed step all_started
+    put_at_pointer row_of served effect holds_run with_changes changed step all_started
 among_is = refl
 
 pub returns-clause-among : goal.returns-clause-among
@@ -34,7 +35,7 @@ returns-clause-among c = ap (λ (es : List Event). pointers (events_of 2 es)) (e
 alone_is : pointers (trace in_turns second_alone 10) ≡ hello_pointers
 unfolding built_gates probe_of bind read_of room_of poke size_at fetched reg16 table table_0f groups mark head_of decoded valued
     pair_valued storing within pushing push call_far group_of steps_of stepped holds_name argument is_good range_of
-    put_at_pointer dos_write dos_exit effect holds_run with_changes changed step all_started
+    put_at_pointer row_of served effect holds_run with_changes changed step all_started
 alone_is = refl
 
 pub returns-clause-alone : goal.returns-clause-alone
@@ -43,7 +44,7 @@ returns-clause-alone c = ap (λ (es : List Event). pointers es) (events_are in_t
 written_is : pieces (events_of 2 (trace in_turns two_hellos 20)) ≡ codes "hello"
 unfolding built_gates probe_of bind read_of room_of poke size_at fetched reg16 table table_0f groups mark head_of decoded valued
     pair_valued storing within pushing push call_far group_of steps_of stepped holds_name argument is_good range_of
-    put_at_pointer dos_write dos_exit effect holds_run with_changes changed step all_started
+    put_at_pointer row_of served effect holds_run with_changes changed step all_started
 written_is = refl
 
 pub returns-clause-written : goal.returns-clause-written
@@ -52,7 +53,7 @@ returns-clause-written c = ap (λ (es : List Event). pieces (events_of 2 es)) (e
 written_alone_is : pieces (trace in_turns second_alone 10) ≡ codes "hello"
 unfolding built_gates probe_of bind read_of room_of poke size_at fetched reg16 table table_0f groups mark head_of decoded valued
     pair_valued storing within pushing push call_far group_of steps_of stepped holds_name argument is_good range_of
-    put_at_pointer dos_write dos_exit effect holds_run with_changes changed step all_started
+    put_at_pointer row_of served effect holds_run with_changes changed step all_started
 written_alone_is = refl
 
 pub returns-clause-written_alone : goal.returns-clause-written_alone

@@ -1,9 +1,9 @@
 use Rattle.o2_world.proofs.AllFit.{all_moves_fit, all_moves_swept}
-use Rattle.o2_world.proofs.StepMoves.{effect_moves, served_moves}
+use Rattle.o2_world.proofs.StepMoves.{effect_moves, serviced_moves}
 use Rattle.o2_world.proofs.laws.what_calls_change_is_fit.Goals as goal
 
 pub returns-clause-shape : goal.returns-clause-shape
-returns-clause-shape c = served_moves
+returns-clause-shape c = serviced_moves
 
 pub returns-clause-steps : goal.returns-clause-steps
 returns-clause-steps c = effect_moves
