@@ -1,0 +1,9 @@
+pub mod Splits
+pub mod Digits
+pub mod Arguments
+pub mod Reading
+pub mod Lists
+pub mod Reaching
+pub mod PlainLines
+pub mod RunsPlain
+pub mod Loads
