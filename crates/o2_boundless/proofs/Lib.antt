@@ -8,8 +8,8 @@ pub mod Walks
 pub mod Pointers
 pub mod Writing
 pub mod Telling
-pub mod Rows
+pub mod Placed
+pub mod Serving
 pub mod Behind
 pub mod Kept
-pub mod OwnRows
 pub mod Runs

@@ -4,7 +4,9 @@ use Rattle.std.specs.Prelude.{if◌then◌else◌}
 use Rattle.std.proofs.lemmas.List.{map-append, take_more, append-nil}
 use Rattle.std.proofs.lemmas.List.Elements.{filter-append}
 use Rattle.o2_world.specs.Changes.{Change, Drops}
-use Rattle.o2_world.specs.Rulings.{indexes, dropped_by, dropped_indexes}
+use Rattle.o2_world.specs.Known.{Known}
+use Rattle.o2_world.specs.Outcomes.{gone_by, gone_indexes, is_gone}
+use Rattle.o2_world.specs.Rulings.{indexes}
 use Rattle.o2_boundless.specs.declared.changing.Edit.{Edit}
 use Rattle.o2_boundless.specs.Edits.{change_of, changes_of}
 
@@ -16,22 +18,26 @@ drops_more n is k i h e = ap (map (λ (j : ℕ). Drops n j 1)) (take_more is k i
 
 pub ruleset drops = (changes_of-push, drops_more)
 
--- indexes of which holds go
-pub dropped_by-append : (c : Change) (is js : List ℕ) → dropped_by c (is ++ js) ≡ dropped_by c is ++ js
-dropped_by-append c is js = elim c as (λ c. dropped_by c (is ++ js) ≡ dropped_by c is ++ js) [ Drops p i count ↦ refl | _ ↦ refl ]
+-- indexes of which a process holds nothing any more
+if_more : (b : Bool) (i : ℕ) (is js : List ℕ) → (if b then i ∷ (is ++ js) else is ++ js) ≡ (if b then i ∷ is else is) ++ js
+if_more true i is js = refl
+if_more false i is js = refl
 
-pub dropped_indexes-push : (cs : List Change) (c : Change) → dropped_indexes (cs ++ c ∷ []) ≡ dropped_indexes cs ++ dropped_by c []
-dropped_indexes-push [] c = refl
-dropped_indexes-push (d ∷ cs) c = ap (dropped_by d) (dropped_indexes-push cs c) ∙ dropped_by-append d (dropped_indexes cs) (dropped_by c [])
+gone_by-append : (k : Known) (c : Change) (is js : List ℕ) → gone_by k c (is ++ js) ≡ gone_by k c is ++ js
+gone_by-append k c is js = elim c as (λ c. gone_by k c (is ++ js) ≡ gone_by k c is ++ js) [ Drops p i count ↦ if_more (is_gone count (k.held p i)) i is js | _ ↦ refl ]
 
-pub dropped_more : (es : List Edit) (k : ℕ) (e : Edit) → k < length es → e ≡ get_or es k e → dropped_indexes (changes_of (take (k + 1) es)) ≡ dropped_indexes (changes_of (take k es)) ++ dropped_by (change_of e) []
-dropped_more es k e h at =
-    ap (λ l. dropped_indexes (changes_of l)) (take_more es k e h)
-    ∙ (ap dropped_indexes (changes_of-push (take k es) (get_or es k e))
-    ∙ (dropped_indexes-push (changes_of (take k es)) (change_of (get_or es k e))
-    ∙ ap (λ x. dropped_indexes (changes_of (take k es)) ++ dropped_by (change_of x) []) (sym at)))
+gone_indexes-push : (k : Known) (cs : List Change) (c : Change) → gone_indexes k (cs ++ c ∷ []) ≡ gone_indexes k cs ++ gone_by k c []
+gone_indexes-push k [] c = refl
+gone_indexes-push k (d ∷ cs) c = ap (gone_by k d) (gone_indexes-push k cs c) ∙ gone_by-append k d (gone_indexes k cs) (gone_by k c [])
 
-pub ruleset dropped = (dropped_more, append-nil)
+pub gone_more : (k : Known) (es : List Edit) (j : ℕ) (e : Edit) → j < length es → e ≡ get_or es j e → gone_indexes k (changes_of (take (j + 1) es)) ≡ gone_indexes k (changes_of (take j es)) ++ gone_by k (change_of e) []
+gone_more k es j e h at =
+    ap (λ l. gone_indexes k (changes_of l)) (take_more es j e h)
+    ∙ (ap (gone_indexes k) (changes_of-push (take j es) (get_or es j e))
+    ∙ (gone_indexes-push k (changes_of (take j es)) (change_of (get_or es j e))
+    ∙ ap (λ x. gone_indexes k (changes_of (take j es)) ++ gone_by k (change_of x) []) (sym at)))
+
+pub ruleset gone = (gone_more, append-nil)
 
 -- members
 pub indexes-push : (first n : ℕ) → indexes first (n + 1) ≡ indexes first n ++ (first + n) ∷ []

@@ -7,7 +7,7 @@ use Rattle.o2_isa.specs.View.{Hold, is_null, is_readable, is_writable, bound_in,
 use Rattle.o2_isa.specs.Pointers.{is_good, is_for_es, is_passed, range_of}
 use Rattle.o2_world.specs.World.{Segment, Held, Process}
 use Rattle.o2_world.specs.Map.{Map, get}
-use Rattle.o2_boundless.specs.Outcomes.{reaches}
+use Rattle.o2_boundless.specs.Effects.{reaches}
 use Rattle.o2_world.specs.Views.{view_of, view_over, hold_of, holds_in, segment_bytes, bytes_in}
 
 -- bytes of a name

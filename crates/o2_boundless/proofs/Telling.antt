@@ -10,7 +10,7 @@ use Rattle.o2_world.specs.Changes.{Change, Makes, Resizes, Locks, Marks, Holds, 
 use Rattle.o2_world.specs.Text.{line_text, lines_text}
 use Rattle.o2_boundless.specs.declared.changing.Edit.{Edit}
 use Rattle.o2_boundless.specs.Edits.{change_of, changes_of}
-use Rattle.o2_boundless.specs.Outcomes.{moves, times, pairs_of, key_by, among_pairs, ordered, line_by}
+use Rattle.o2_boundless.specs.Effects.{moves, times, pairs_of, key_by, among_pairs, ordered, line_by}
 
 at_drop : {X : Type 0} (xs : List X) (k : ℕ) (x : X) → k < length xs → x ≡ get_or xs k x → drop k xs ≡ x ∷ drop (k + 1) xs
 at_drop xs k x h at = drop_more xs k x h ∙ ap (λ y. y ∷ drop (k + 1) xs) (sym at)

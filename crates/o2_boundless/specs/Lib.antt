@@ -6,7 +6,7 @@ pub mod Pairs
 pub mod Verdicts
 pub mod Sharing
 pub mod Outcomes
+pub mod Effects
 pub mod Called
 pub mod Worked
-pub mod Plain
 pub mod Bare

@@ -1,11 +1,8 @@
--- Who holds an index, and which segments are shared, each as a test of one index; and a call that is given a text.
-use Rattle.std.specs.Prelude.{ℕ, Bool, not, List, length, find, nat_le, ◌&&◌, if◌then◌else◌, Option, is_some}
-use Rattle.o2_world.specs.declared.types.Argument.{Argument}
+-- Who holds an index, and which segments are shared, each as a test of one index.
+use Rattle.std.specs.Prelude.{ℕ, Bool, not, List, length, find, nat_le, ◌&&◌, Option, is_some}
 use Rattle.o2_world.specs.World.{Process}
-use Rattle.o2_world.specs.CallParts.{Before, Effect, may_write, trapped}
 use Rattle.o2_world.specs.Known.{Known, held_at, same_text}
-use Rattle.o2_world.specs.Rulings.{Ruling, indexes}
-use Rattle.o2_world.specs.SegmentCalls.{Written, ruled_at}
+use Rattle.o2_world.specs.Rulings.{indexes}
 use Rattle.o2_world.specs.SharedRulings.{held_by, holder, is_share, is_shared_with, marks_by_call, shared_from}
 
 abbrev pub holder_among : List Process → (index : ℕ) → Option ℕ
@@ -24,8 +21,3 @@ is_no_share k q i = not (is_share_at k q i)
 -- a text is that of a pair
 abbrev pub has_text : List ℕ → List ℕ × ℕ → Bool
 has_text text t = same_text t.0 text
-
--- a call with a pointer to a text, which is good or isn't, and one behind which it writes its value, by its ruling
-abbrev pub texted : Before → (good : Bool) → (words : ℕ) → (name : List ℕ) → List Argument → Written → Ruling → Effect
-texted b good words name args t r =
-    if good && may_write b.view t.selector t.offset 2 then ruled_at b b.cpu.ip words name args t r else trapped b 13

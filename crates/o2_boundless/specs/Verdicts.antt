@@ -1,8 +1,8 @@
 -- What a call comes to, as a value of the code.
-use Rattle.std.specs.Prelude.{ℕ, option_map, Option, Bool, ◌&&◌}
+use Rattle.std.specs.Prelude.{option_map, Option}
 use Rattle.o2_world.specs.World.{Segment}
-use Rattle.o2_world.specs.Known.{Known, Marks, marks_of}
-use Rattle.o2_world.specs.Rulings.{Ruling, is_index, is_last}
+use Rattle.o2_world.specs.Known.{Marks, marks_of}
+use Rattle.o2_world.specs.Rulings.{Ruling}
 use Rattle.o2_boundless.specs.declared.rulings.Verdict.{Verdict}
 use Rattle.o2_boundless.specs.Edits.{changes_of}
 
@@ -11,7 +11,3 @@ ruling_of v = record { error = v.error; value = v.value; changes = changes_of v.
 
 abbrev pub marks_in : Option Segment → Option Marks
 marks_in s = option_map marks_of s
-
--- a selector names the index, of which the last hold goes
-abbrev pub gone_at : Known → (process selector index : ℕ) → Bool
-gone_at k process selector i = is_index selector i && is_last (k.held process i)

@@ -4,12 +4,11 @@ use Rattle.o2_isa.specs.declared.cpu.Cpu.{Cpu}
 use Rattle.o2_world.specs.declared.types.State.{State}
 use Rattle.o2_world.specs.World.{Held, Process, is_live}
 use Rattle.o2_world.specs.Map.{Map}
-use Rattle.o2_boundless.specs.declared.pointing.Write.{Write}
 use Rattle.o2_world.specs.Views.{bytes_in, holds_in, with_bytes}
 use Rattle.o2_world.specs.Holders.{with_process}
-use Rattle.o2_boundless.specs.declared.outcome.Outcome.{Outcome}
+use Rattle.o2_boundless.specs.declared.effect.Effect.{Effect}
 use Rattle.o2_boundless.specs.Shown.{Shown}
-use Rattle.o2_boundless.specs.Outcomes.{written}
+use Rattle.o2_boundless.specs.Effects.{written}
 
 -- a process with these registers, and the state where it goes on
 abbrev pub with_state : Process → Cpu → State → Process
@@ -29,8 +28,8 @@ worked_from v n p cpu state bytes input piece lines = record v {
 
 -- its parts, one after the other
 
-abbrev pub with_writes : Map Held → List Write → Shown → Shown
-with_writes held ws v = record v { world = record v.world { names = with_bytes v.world.names (written (holds_in held) ws (bytes_in v.world.names)) } }
+abbrev pub with_parts : Map Held → List (ℕ × ℕ) → List (List ℕ) → Shown → Shown
+with_parts held ps parts v = record v { world = record v.world { names = with_bytes v.world.names (written (holds_in held) ps parts (bytes_in v.world.names)) } }
 
 abbrev pub with_worker : ℕ → Process → Shown → Shown
 with_worker n p v = record v { world = record v.world { processes = with_process v.world.processes n p } }
@@ -44,7 +43,7 @@ with_console console v = record v { world = record v.world { console = console }
 abbrev pub with_report : List ℕ → Shown → Shown
 with_report report v = record v { world = record v.world { lines = [] }; report = report }
 
-abbrev pub worked_by : Shown → ℕ → Process → Outcome → Shown
+abbrev pub worked_by : Shown → ℕ → Process → Effect → Shown
 worked_by v n p x =
-    worked_from v n p x.cpu x.state (written (holds_in p.held) x.writes.items (bytes_in v.world.names)) (drop x.read v.world.input)
+    worked_from v n p x.cpu x.state (written (holds_in p.held) x.targets.items x.parts.items (bytes_in v.world.names)) (drop x.read v.world.input)
     x.piece.items x.lines.items

@@ -1,187 +1,164 @@
 // A call of a process.
-ghost use Rattle.std.specs.Prelude.{◌≡◌, ◌≤◌, ◌++◌, true, IfOk, OnErr, OnOk, Some, length, replicate, slice_index};
+ghost use Rattle.std.specs.Prelude.{◌≡◌, ◌≤◌, ◌++◌, [], true, IfOk, List, OnErr, OnOk, Some, length, replicate, slice_index};
 ghost use Rattle.std.specs.Option.{option_copied};
-ghost use Rattle.o2_world.specs.declared.types.Row.TheVariants.{OnRuns, OnSegments, OnShared};
+ghost use Rattle.o2_world.specs.declared.types.Slot.{Slot};
 ghost use Rattle.o2_world.specs.Calls.{row_of};
-ghost use Rattle.o2_world.specs.Known.{lives_at};
 ghost use Rattle.o2_world.specs.Holders.{process_at};
-ghost use Rattle.o2_world.specs.CallParts.{Effect};
-ghost use Rattle.o2_boundless.specs.Shown.{before_call};
-ghost use Rattle.o2_boundless.specs.Outcomes.{IsOutcome};
-ghost use Rattle.o2_boundless.specs.Called.{transfer_by, effect_by, behind_effect, answer_of, behind_call, answer};
+ghost use Rattle.o2_world.specs.Known.{lives_at};
+ghost use Rattle.o2_world.specs.Outcomes.{come_out, gone_by, gone_indexes, is_gone};
+ghost use Rattle.o2_world.specs.HugeRulings.{without};
+ghost use Rattle.o2_world.specs.Slots.{words_in};
+ghost use Rattle.o2_boundless.specs.Called.{answer, answer_of, behind_call, behind_effect, effect_by, worded_by};
+ghost use Rattle.o2_boundless.specs.Edits.{change_of, changes_of};
+ghost use Rattle.o2_boundless.specs.Effects.{IsEffect};
+ghost use Rattle.o2_boundless.specs.Outcomes.{outcome_of, placed, row_by, shape_by};
+ghost use Rattle.o2_boundless.specs.Shown.{before_call, known_by};
 
-use crate::look::{is_alive, process_of};
-use crate::outcome::{Outcome, trapped};
-use crate::own_rows::exit;
+use crate::changing::Edit;
+use crate::effect::{Effect, comes_back, leaves, returned, trapped};
+use crate::huge::without;
+use crate::look::{held_by, is_alive, process_of};
+use crate::outcome::{Done, Outcome};
 use crate::pointing::registers;
-use crate::working::{all_edits, is_live};
-use crate::{Process, World};
+use crate::rows::{Row, row_of};
+use crate::slots::{Layout, from_top, layout_of};
+use crate::working::is_live;
+use crate::{Held, Process, World};
 use o2_base::NoMemory;
-use o2_world::{HugeCall, Row, SegmentCall, SharedCall, Transfer};
+use o2_isa::Cpu;
 use std::alloc::Global;
 
-fn row_of(service: u16) -> Option<Row>
-    ensures { result ≡ row_of service }
+/// Whether so many holds are all that there are.
+fn is_gone(count: u32, held: Option<&Held>) -> bool
+    ensures { result ≡ is_gone count (option_copied held.entry) }
 {
-    match service {
-        1 => Some(Row::DosExit),
-        2 => Some(Row::DosGetPid),
-        3 => Some(Row::DosRead),
-        4 => Some(Row::DosWrite),
-        5 => Some(Row::OnSegments(SegmentCall::DosAllocSeg)),
-        6 => Some(Row::OnSegments(SegmentCall::DosReallocSeg)),
-        7 => Some(Row::OnSegments(SegmentCall::DosFreeSeg)),
-        8 => Some(Row::OnSegments(SegmentCall::DosSizeSeg)),
-        9 => Some(Row::OnSegments(SegmentCall::DosLockSeg)),
-        10 => Some(Row::OnSegments(SegmentCall::DosUnlockSeg)),
-        11 => Some(Row::OnSegments(SegmentCall::DosCreateCsAlias)),
-        12 => Some(Row::OnShared(SharedCall::DosAllocShrSeg)),
-        13 => Some(Row::OnShared(SharedCall::DosGetShrSeg)),
-        14 => Some(Row::OnShared(SharedCall::DosGiveSeg)),
-        15 => Some(Row::OnShared(SharedCall::DosGetSeg)),
-        16 => Some(Row::OnRuns(HugeCall::DosAllocHuge)),
-        17 => Some(Row::OnRuns(HugeCall::DosReallocHuge)),
-        18 => Some(Row::OnRuns(HugeCall::DosGetHugeShift)),
-        19 => Some(Row::DosMemAvail),
-        _ => None,
+    match held {
+        None => false,
+        Some(held) => held.holds <= count,
     }
-}
-
-/// The arguments, and zeros behind them, so that there are six at least.
-fn padded(alloc: Global, args: &[u16]) -> Result<Vec<u16>, NoMemory>
-    ensures { IfOk result (λ v. v.items ≡ args.now ++ replicate 6 0) }
-{
-    let mut all = Vec::from_slice(alloc, args)?;
-    let zeros = vec![in alloc; 0; 6]?;
-    all.extend_from_slice(&zeros)?;
-    Ok(all)
 }
 
 impl World {
-    /// A call on segments, with its arguments.
-    fn on_segments(
-        &self,
-        alloc: Global,
-        n: u16,
-        process: &Process,
-        call: SegmentCall,
-        a: &[u16],
-    ) -> Result<Outcome, NoMemory>
-        requires { 6 ≤ length a.now }
-        ensures { IfOk result (λ x. IsOutcome (before_call self.now n process.now) x (effect_by self.now n process.now (Some (OnSegments call)) a.now)) }
+    fn put_gone(&self, indexes: &mut Vec<u16>, edit: &Edit) -> Result<(), NoMemory>
+        ensures { IfOk result (λ _. indexes.new.items ≡ indexes.old.items ++ gone_by (known_by self.now) (change_of edit.now) []) }
     {
-        match call {
-            SegmentCall::DosAllocSeg => self.alloc_seg(alloc, n, process, a[0], a[1], a[2], a[3]),
-            SegmentCall::DosReallocSeg => self.realloc_seg(alloc, n, process, a[0], a[1]),
-            SegmentCall::DosFreeSeg => self.free_seg(alloc, n, process, a[0]),
-            SegmentCall::DosSizeSeg => self.size_seg(alloc, n, process, a[0], a[1], a[2]),
-            SegmentCall::DosLockSeg => self.lock_seg(alloc, n, process, a[0]),
-            SegmentCall::DosUnlockSeg => self.unlock_seg(alloc, n, process, a[0]),
-            SegmentCall::DosCreateCsAlias => {
-                self.create_cs_alias(alloc, n, process, a[0], a[1], a[2])
+        match edit {
+            Edit::Drops(process, index, count) => {
+                if is_gone(*count, held_by(&self.processes, *process, *index)) {
+                    indexes.push(*index)?;
+                }
             }
+            Edit::Makes(_) => {}
+            Edit::Resizes(_, _) => {}
+            Edit::Locks(_, _) => {}
+            Edit::Holds(_, _, _) => {}
+            Edit::Finishes(_, _) => {}
+            Edit::Reserves(_) => {}
+            Edit::Names(_, _) => {}
         }
+        Ok(())
     }
 
-    /// A call by which processes share segments, with its arguments.
-    fn on_shared(
-        &self,
-        alloc: Global,
-        n: u16,
-        process: &Process,
-        call: SharedCall,
-        a: &[u16],
-    ) -> Result<Outcome, NoMemory>
-        requires { 6 ≤ length a.now }
-        ensures { IfOk result (λ x. IsOutcome (before_call self.now n process.now) x (effect_by self.now n process.now (Some (OnShared call)) a.now)) }
+    /// The indexes of which a process holds nothing any more.
+    #[tactic(auto, using(crate::proofs::Lists::gone))]
+    fn gone_indexes(&self, alloc: Global, edits: &[Edit]) -> Result<Vec<u16>, NoMemory>
+        ensures { IfOk result (λ v. v.items ≡ gone_indexes (known_by self.now) (changes_of edits.now)) }
     {
-        match call {
-            SharedCall::DosAllocShrSeg => {
-                self.alloc_shr_seg(alloc, n, process, a[0], a[1], a[2], a[3], a[4])
-            }
-            SharedCall::DosGetShrSeg => {
-                self.get_shr_seg(alloc, n, process, a[0], a[1], a[2], a[3])
-            }
-            SharedCall::DosGiveSeg => self.give_seg(alloc, n, process, a[0], a[1], a[2], a[3]),
-            SharedCall::DosGetSeg => self.get_seg(alloc, n, process, a[0]),
+        let mut indexes = Vec::new(alloc);
+        for edit in edits {
+            self.put_gone(&mut indexes, edit)?;
         }
+        Ok(indexes)
     }
 
-    /// A call on a huge allocation, with its arguments.
-    fn on_runs(
-        &self,
-        alloc: Global,
-        n: u16,
-        process: &Process,
-        call: HugeCall,
-        a: &[u16],
-    ) -> Result<Outcome, NoMemory>
-        requires { 6 ≤ length a.now }
-        ensures { IfOk result (λ x. IsOutcome (before_call self.now n process.now) x (effect_by self.now n process.now (Some (OnRuns call)) a.now)) }
+    /// The registers as a call comes back that is done: DS and ES are 0 where they named what is gone.
+    fn cleared(&self, alloc: Global, cpu: &Cpu, edits: &[Edit]) -> Result<Cpu, NoMemory>
+        ensures { IfOk result (λ c. c ≡ without cpu.now (gone_indexes (known_by self.now) (changes_of edits.now))) }
     {
-        match call {
-            HugeCall::DosAllocHuge => {
-                self.alloc_huge(alloc, n, process, a[0], a[1], a[2], a[3], a[4], a[5])
-            }
-            HugeCall::DosReallocHuge => self.realloc_huge(alloc, n, process, a[0], a[1], a[2]),
-            HugeCall::DosGetHugeShift => self.get_huge_shift(alloc, n, process, a[0], a[1]),
-        }
+        let gone = self.gone_indexes(alloc, edits)?;
+        Ok(without(cpu, &gone))
     }
 
-    fn outcome(
+    /// A call of a row that comes out so.
+    fn come_out(
         &self,
         alloc: Global,
         n: u16,
         process: &Process,
-        row: Row,
-        a: &[u16],
-    ) -> Result<Outcome, NoMemory>
-        requires { 6 ≤ length a.now }
-        ensures { IfOk result (λ x. IsOutcome (before_call self.now n process.now) x (effect_by self.now n process.now (Some row) a.now)) }
-    {
-        match row {
-            Row::DosExit => exit(alloc, n, process, a[0], a[1]),
-            Row::DosGetPid => self.get_pid(alloc, n, process, a[0], a[1]),
-            Row::DosRead => self.read(alloc, n, process, &transfer_by(a)),
-            Row::DosWrite => self.write(alloc, n, process, &transfer_by(a)),
-            Row::DosMemAvail => self.mem_avail(alloc, n, process, a[0], a[1]),
-            Row::OnSegments(call) => self.on_segments(alloc, n, process, call, a),
-            Row::OnShared(call) => self.on_shared(alloc, n, process, call, a),
-            Row::OnRuns(call) => self.on_runs(alloc, n, process, call, a),
-        }
-    }
-
-    /// A number without a row is that of no call.
-    fn outcome_of(
-        &self,
-        alloc: Global,
-        n: u16,
-        process: &Process,
-        row: Option<Row>,
-        a: &[u16],
-    ) -> Result<Outcome, NoMemory>
-        requires { 6 ≤ length a.now }
-        ensures { IfOk result (λ x. IsOutcome (before_call self.now n process.now) x (effect_by self.now n process.now row a.now)) }
-    {
-        match row {
-            Some(row) => self.outcome(alloc, n, process, row, a),
-            None => trapped(alloc, n, &registers(process), 13),
-        }
-    }
-
-    fn behind(
-        &self,
-        alloc: Global,
-        n: u16,
-        process: &Process,
+        row: &Row,
+        layout: &Layout,
+        words: &[u16],
         outcome: Outcome,
-    ) -> Result<World, NoMemory>
-        ensures { IfOk result (λ w. (e : Effect) → IsOutcome (before_call self.now n process.now) outcome e → w ≡ behind_effect self.now n process.now e) }
+    ) -> Result<Effect, NoMemory>
+        requires slots { layout.now.slots.items ≡ placed row.now.slots.now }
+        requires words { layout.now.words ≡ words_in row.now.slots.now }
+        ensures { IfOk result (λ x. let b = before_call self.now n process.now in IsEffect b x (come_out (row_by row.now) b b.cpu.ip (slice_index words.now) (outcome_of b.input outcome))) }
     {
-        let mut world = self.worked(alloc, n, process, &outcome)?;
-        let edits = all_edits(n, outcome.state, outcome.edits)?;
-        world.change_all(alloc, &edits)?;
-        Ok(world)
+        let cpu = registers(process);
+        match outcome {
+            Outcome::Fails(error, values) => {
+                let done = Done {
+                    values,
+                    parts: Vec::new(alloc),
+                    edits: Vec::new(alloc),
+                    read: 0,
+                    piece: Vec::new(alloc),
+                };
+                let after = returned(&cpu, layout.words, error);
+                comes_back(alloc, n, after, row.name, layout, words, error, done)
+            }
+            Outcome::Does(done) => {
+                let after = returned(&cpu, layout.words, 0);
+                let after = self.cleared(alloc, &after, &done.edits)?;
+                comes_back(alloc, n, after, row.name, layout, words, 0, done)
+            }
+            Outcome::Leaves(action, code) => leaves(alloc, n, &cpu, action, code),
+        }
+    }
+
+    /// The call of a row, by its words.
+    fn worded(
+        &self,
+        alloc: Global,
+        n: u16,
+        process: &Process,
+        service: u16,
+        row: &Row,
+        layout: &Layout,
+        words: &[u16],
+    ) -> Result<Effect, NoMemory>
+        requires row { shape_by (row_of service) ≡ Some (row.now.name.now, row.now.slots.now) }
+        requires slots { layout.now.slots.items ≡ placed row.now.slots.now }
+        requires words { layout.now.words ≡ words_in row.now.slots.now }
+        requires enough { 6 ≤ length words.now }
+        ensures { IfOk result (λ x. let b = before_call self.now n process.now in IsEffect b x (worded_by (row_of service) b b.cpu.ip (slice_index words.now))) }
+    {
+        let cpu = registers(process);
+        let good = self.are_good(alloc, process, &layout.slots, words)?;
+        if !good {
+            return trapped(alloc, n, &cpu, 13);
+        }
+        let outcome = self.outcome(alloc, n, process, service, row.slots, words)?;
+        self.come_out(alloc, n, process, row, layout, words, outcome)
+    }
+
+    /// What a call does. A number without a row is that of no call.
+    fn effect(
+        &self,
+        alloc: Global,
+        n: u16,
+        process: &Process,
+        service: u16,
+        args: &[u16],
+    ) -> Result<Effect, NoMemory>
+        ensures { IfOk result (λ x. IsEffect (before_call self.now n process.now) x (effect_by self.now n process.now (row_of service) args.now)) }
+    {
+        let Some(row) = row_of(service) else {
+            return trapped(alloc, n, &registers(process), 13);
+        };
+        let layout = layout_of(alloc, row.slots)?;
+        let words = from_top(alloc, layout.words, args)?;
+        self.worded(alloc, n, process, service, &row, &layout, &words)
     }
 
     /// Whether a number is that of a process that has not ended.
@@ -218,6 +195,7 @@ impl World {
         process_of(&self.processes, pid)
     }
 
+    #[tactic(auto, using(crate::proofs::Behind::answered))]
     fn called(
         &self,
         alloc: Global,
@@ -231,8 +209,7 @@ impl World {
         let Some(process) = self.process(pid) else {
             return Err(NoMemory);
         };
-        let args = padded(alloc, args)?;
-        self.called_by(alloc, pid, process, row_of(service), &args)
+        self.called_by(alloc, pid, process, service, args)
     }
 
     #[tactic(auto, using(crate::proofs::Behind::answered))]
@@ -241,34 +218,20 @@ impl World {
         alloc: Global,
         n: u16,
         process: &Process,
-        row: Option<Row>,
+        service: u16,
         args: &[u16],
     ) -> Result<(World, u16), NoMemory>
-        requires { 6 ≤ length args.now }
-        ensures world { IfOk result (λ r. r.0 ≡ behind_effect self.now n process.now (effect_by self.now n process.now row args.now)) }
-        ensures error { IfOk result (λ r. r.1 ≡ answer_of (effect_by self.now n process.now row args.now)) }
+        ensures world { IfOk result (λ r. r.0 ≡ behind_effect self.now n process.now (effect_by self.now n process.now (row_of service) args.now)) }
+        ensures error { IfOk result (λ r. r.1 ≡ answer_of (effect_by self.now n process.now (row_of service) args.now)) }
     {
-        let outcome = self.outcome_of(alloc, n, process, row, args)?;
-        let error = if is_live(outcome.state) {
-            outcome.cpu.ax
+        let effect = self.effect(alloc, n, process, service, args)?;
+        let error = if is_live(effect.state) {
+            effect.cpu.ax
         } else {
             0
         };
-        let next = self.behind(alloc, n, process, outcome)?;
+        let mut next = self.copy(alloc)?;
+        next.take_effect(alloc, n, process, effect)?;
         Ok((next, error))
-    }
-}
-
-fn transfer_by(a: &[u16]) -> Transfer
-    requires { 6 ≤ length a.now }
-    ensures { result ≡ transfer_by (slice_index a.now) }
-{
-    Transfer {
-        handle: a[0],
-        selector: a[1],
-        offset: a[2],
-        count: a[3],
-        done_selector: a[4],
-        done_offset: a[5],
     }
 }

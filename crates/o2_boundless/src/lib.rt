@@ -1,22 +1,21 @@
-//! The boundless machine's world as a value, and the calls of DOSCALLS on it, run row by row.
+//! The boundless machine's world as a value, and the calls of DOSCALLS on it, each run by its row.
 #![tactic(auto)]
 
 mod call;
 mod changing;
 mod choosing;
+mod effect;
 mod huge;
-mod huge_rows;
 mod laws;
 mod look;
 mod naming;
 mod outcome;
-mod own_rows;
 mod parts;
 mod pointing;
+mod rows;
 mod rulings;
-mod segment_rows;
-mod shared_rows;
 mod sharing;
+mod slots;
 mod working;
 mod world;
 

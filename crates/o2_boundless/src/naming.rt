@@ -197,7 +197,7 @@ impl World {
     {
         let bytes = bytes_at(alloc, &self.names, process, selector, offset)?;
         let size = looked_at(&bytes);
-        Ok(self.may_read(process, selector, offset, size))
+        Ok(self.may_read(process, selector, offset, u32::from(size)))
     }
 
     /// The name that the text behind a pointer gives, folded, where it is one.

@@ -1,381 +1,244 @@
-// What a call does, and its lines.
-ghost use Rattle.std.specs.Prelude.{◌≡◌, ◌++◌, ◌∷◌, [], ◌≤◌, ◌+◌, ◌*◌, ◌%◌, ◌/◌, ℕ, List, Bool, true, false, length, drop, replicate, map, flat_map, IfOk};
-ghost use Rattle.o2_base.specs.Selectors.{selector_of};
-ghost use Rattle.o2_isa.specs.Pointers.{put_at_pointer};
-ghost use Rattle.o2_world.specs.World.{Calls};
-ghost use Rattle.o2_world.specs.Changes.{moved_lines};
-ghost use Rattle.o2_world.specs.CallParts.{Before, trapped, returned, word_bytes, long_bytes};
-ghost use Rattle.o2_world.specs.SegmentCalls.{back, refused, ruled, ruled_at, written_word, written_long};
-ghost use Rattle.o2_world.specs.Text.{line_text, lines_text};
-ghost use Rattle.o2_boundless.specs.Edits.{change_of, changes_of};
+// How a call comes out whose words lie in the stack and whose pointers are good.
+ghost use Rattle.std.specs.Prelude.{◌≡◌, ◌∷◌, [], ◌≤◌, ℕ, List, IfOk, length, slice_index, take};
+ghost use Rattle.o2_world.specs.declared.types.Argument.TheVariants.{Word as Shown};
+ghost use Rattle.o2_world.specs.Calls.{is_console, pid_bytes, reading, row_of, telling_pid, writing};
+ghost use Rattle.o2_world.specs.CallParts.{Before};
+ghost use Rattle.o2_world.specs.Outcomes.{Fails, by_ruling};
+ghost use Rattle.o2_world.specs.Rulings.{Ruling};
+ghost use Rattle.o2_boundless.specs.Outcomes.{outcome_by, outcome_of, slots_by};
+ghost use Rattle.o2_boundless.specs.Shown.{before_call};
 ghost use Rattle.o2_boundless.specs.Verdicts.{ruling_of};
-ghost use Rattle.o2_boundless.specs.Outcomes.{IsOutcome, written_by, moves, times, pairs_of, key_by, among_pairs, ordered, line_by};
 
 use crate::changing::Edit;
-use crate::pointing::Write;
-use crate::rulings::Verdict;
-use o2_base::NoMemory;
-use o2_isa::Cpu;
-use o2_report::{LineBuffer, set_calls, set_drops, set_holds, set_traps};
-use o2_world::{Argument, State};
+use crate::pointing::registers;
+use crate::rulings::{Verdict, grants};
+use crate::slots::{put_value, word_bytes};
+use crate::{Process, World};
+use o2_base::{Bytes, NoMemory};
+use o2_world::{Argument, Slot};
 use std::alloc::Global;
 
-/// What a call does: the process's registers and state after it, what it writes, what it changes beside, how many bytes of the input
-/// it takes, its piece for the console, and its lines.
+/// The selectors of a run rise by 8, which is 1 shifted left by so many bits.
+const SHIFT: u32 = 3;
+
+/// What a call gives that is done: the values of its line, the parts that are written, each behind the next pointer that is for
+/// writing, what changes beside, how many bytes of the input it takes, and its piece for the console.
 #[derive(Drop)]
-pub struct Outcome {
-    pub cpu: Cpu,
-    pub state: State,
-    pub writes: Vec<Write>,
+pub struct Done {
+    pub values: Vec<Argument>,
+    pub parts: Vec<Bytes>,
     pub edits: Vec<Edit>,
     pub read: usize,
     pub piece: Vec<u8>,
-    pub lines: Vec<u8>,
 }
 
-/// What a call writes behind its last pointer.
+/// How a call comes out.
 #[derive(Drop)]
-pub struct Reply {
-    pub selector: u16,
-    pub offset: u16,
-    pub part: Vec<u8>,
-    /// As the line has it.
-    pub shown: Argument,
+pub enum Outcome {
+    /// An error, with the values of its line.
+    Fails(u16, Vec<Argument>),
+    Does(Done),
+    /// The process ends, by this action, with this code.
+    Leaves(u16, u16),
 }
 
-/// The line of a call.
-#[derive(Drop)]
-pub(crate) struct Named<'a> {
-    pub number: u16,
-    pub name: &'a [u8],
-    pub args: &'a [Argument],
-}
-
-// Lines of holds.
-
-fn key(pair: &(u16, u16)) -> u32
-    ensures { result ≡ key_by pair.now }
+fn one_value(alloc: Global, value: u16) -> Result<Vec<Argument>, NoMemory>
+    ensures { IfOk result (λ v. v.items ≡ Shown value ∷ []) }
 {
-    65536 * pair.0 as u32 + pair.1 as u32
+    Ok(vec![in alloc; Argument::Word(value)]?)
 }
 
-#[tactic(auto, using(crate::proofs::Telling::places))]
-fn put_in_order(pairs: &mut Vec<(u16, u16)>, pair: (u16, u16)) -> Result<(), NoMemory>
-    ensures { IfOk result (λ _. pairs.new.items ≡ among_pairs pair pairs.old.items) }
+/// An error, with a word that its line has.
+fn fails(alloc: Global, error: u16, value: u16) -> Result<Outcome, NoMemory>
+    ensures { IfOk result (λ x. (input : List ℕ) → outcome_of input x ≡ Fails error (Shown value ∷ [])) }
 {
-    let at = key(&pair);
-    for k in 0..pairs.len() {
-        if at <= key(&pairs[k]) {
-            pairs.insert(k, pair)?;
-            return Ok(());
-        }
+    Ok(Outcome::Fails(error, one_value(alloc, value)?))
+}
+
+/// A call by its ruling: its value goes to the slot that is for it.
+fn granted(alloc: Global, slots: &[Slot], verdict: Verdict) -> Result<Outcome, NoMemory>
+    ensures { IfOk result (λ x. (b : Before) → outcome_of b.input x ≡ by_ruling slots.now b (ruling_of verdict)) }
+{
+    if verdict.error != 0 {
+        return Ok(Outcome::Fails(verdict.error, Vec::new(alloc)));
     }
-    pairs.push(pair)?;
-    Ok(())
-}
-
-#[tactic(auto, using(crate::proofs::Telling::replicated))]
-fn put_times(pairs: &mut Vec<(u16, u16)>, pair: (u16, u16), count: u32) -> Result<(), NoMemory>
-    ensures { IfOk result (λ _. (rest : List (ℕ × ℕ)) → pairs.old.items ≡ ordered rest → pairs.new.items ≡ ordered (replicate count pair ++ rest)) }
-{
-    let mut k = 0;
-    while k < count {
-        put_in_order(pairs, pair)?;
-        k += 1;
+    let mut values = Vec::new(alloc);
+    let mut parts = Vec::new(alloc);
+    for slot in slots {
+        put_value(alloc, &mut values, &mut parts, *slot, verdict.value)?;
     }
-    Ok(())
+    Ok(Outcome::Does(Done {
+        values,
+        parts,
+        edits: verdict.edits,
+        read: 0,
+        piece: Vec::new(alloc),
+    }))
 }
 
-fn moves(came: bool, edit: &Edit) -> (u16, u16, u32)
-    ensures { result ≡ moves came (change_of edit.now) }
-{
-    match edit {
-        Edit::Holds(process, index, held) => {
-            if came {
-                (*process, *index, held.holds)
-            } else {
-                (0, 0, 0)
-            }
-        }
-        Edit::Drops(process, index, count) => {
-            if came {
-                (0, 0, 0)
-            } else {
-                (*process, *index, *count)
-            }
-        }
-        Edit::Makes(_) => (0, 0, 0),
-        Edit::Resizes(_, _) => (0, 0, 0),
-        Edit::Locks(_, _) => (0, 0, 0),
-        Edit::Finishes(_, _) => (0, 0, 0),
-        Edit::Reserves(_) => (0, 0, 0),
-        Edit::Names(_, _) => (0, 0, 0),
-    }
-}
-
-fn put_moves(pairs: &mut Vec<(u16, u16)>, came: bool, edit: &Edit) -> Result<(), NoMemory>
-    ensures { IfOk result (λ _. (rest : List (ℕ × ℕ)) → pairs.old.items ≡ ordered rest → pairs.new.items ≡ ordered (times (moves came (change_of edit.now)) ++ rest)) }
-{
-    let (process, index, count) = moves(came, edit);
-    if index > 8191 {
-        return Err(NoMemory);
-    }
-    put_times(pairs, (process, 8 * index + 7), count)
-}
-
-/// The holds that came, or went: by process, then selector.
-#[tactic(auto, using(crate::proofs::Telling::gathered))]
-fn moved(alloc: Global, came: bool, edits: &[Edit]) -> Result<Vec<(u16, u16)>, NoMemory>
-    ensures { IfOk result (λ v. v.items ≡ ordered (pairs_of came (changes_of edits.now))) }
-{
-    let mut pairs = Vec::new(alloc);
-    let mut k = edits.len();
-    while k > 0 {
-        k -= 1;
-        put_moves(&mut pairs, came, &edits[k])?;
-    }
-    Ok(pairs)
-}
-
-fn set_moved(line: &mut LineBuffer, came: bool, cause: &[u8], pair: &(u16, u16))
-    requires { length cause.now ≤ 20 }
-    ensures { line.new ≡ line_text (line_by came cause.now pair.now) }
-{
-    if came {
-        set_holds(line, pair.0, pair.1, cause);
-    } else {
-        set_drops(line, pair.0, pair.1, cause);
-    }
-}
-
-#[tactic(auto, using(crate::proofs::Telling::lined))]
-fn moved_text(
+fn ruled(
     alloc: Global,
-    came: bool,
-    cause: &[u8],
-    pairs: &[(u16, u16)],
-) -> Result<Vec<u8>, NoMemory>
-    requires { length cause.now ≤ 20 }
-    ensures { IfOk result (λ v. v.items ≡ lines_text (map (line_by came cause.now) pairs.now)) }
-{
-    let mut line = LineBuffer::new(alloc)?;
-    let mut text = Vec::new(alloc);
-    for pair in pairs {
-        set_moved(&mut line, came, cause, pair);
-        text.extend_from_slice(line.as_slice())?;
-    }
-    Ok(text)
-}
-
-/// The lines of holds that changes tell.
-#[tactic(auto, using(crate::proofs::Telling::told))]
-fn told(alloc: Global, cause: &[u8], edits: &[Edit]) -> Result<Vec<u8>, NoMemory>
-    requires { length cause.now ≤ 20 }
-    ensures { IfOk result (λ v. v.items ≡ lines_text (moved_lines cause.now (changes_of edits.now))) }
-{
-    let came = moved(alloc, true, edits)?;
-    let went = moved(alloc, false, edits)?;
-    let mut text = moved_text(alloc, true, cause, &came)?;
-    let gone = moved_text(alloc, false, cause, &went)?;
-    text.extend_from_slice(&gone)?;
-    Ok(text)
-}
-
-/// The line of a call, and those of the holds that it changes.
-fn called(
-    alloc: Global,
-    call: &Named,
-    error: u16,
-    values: &[Argument],
-    edits: &[Edit],
-) -> Result<Vec<u8>, NoMemory>
-    requires short_name { length call.now.name.now ≤ 20 }
-    requires few_args { length call.now.args.now ≤ 12 }
-    requires few_values { length values.now ≤ 4 }
-    ensures { IfOk result (λ v. v.items ≡ lines_text (Calls call.now.number call.now.name.now call.now.args.now error values.now ∷ moved_lines call.now.name.now (changes_of edits.now))) }
-{
-    let mut line = LineBuffer::new(alloc)?;
-    set_calls(&mut line, call.number, call.name, call.args, error, values);
-    let mut text = Vec::from_slice(alloc, line.as_slice())?;
-    let moved = told(alloc, call.name, edits)?;
-    text.extend_from_slice(&moved)?;
-    Ok(text)
-}
-
-// What the rows share.
-
-/// A trap: nothing changes but that the process ends.
-pub(crate) fn trapped(
-    alloc: Global,
-    number: u16,
-    cpu: &Cpu,
-    vector: u8,
+    slots: &[Slot],
+    verdict: Result<Verdict, NoMemory>,
 ) -> Result<Outcome, NoMemory>
-    ensures { IfOk result (λ x. (b : Before) → b.number ≡ number → b.cpu ≡ cpu.now → IsOutcome b x (trapped b vector)) }
+    ensures { (b : Before) (r : Ruling) → IfOk verdict (λ v. ruling_of v ≡ r) → IfOk result (λ x. outcome_of b.input x ≡ by_ruling slots.now b r) }
 {
-    let mut line = LineBuffer::new(alloc)?;
-    set_traps(&mut line, number, vector, cpu.cs, cpu.ip);
-    let lines = Vec::from_slice(alloc, line.as_slice())?;
-    Ok(Outcome {
-        cpu: *cpu,
-        state: State::Trapped(vector),
-        writes: Vec::new(alloc),
+    granted(alloc, slots, verdict?)
+}
+
+// DosGetPID(pinfo)
+
+fn telling_pid(alloc: Global, number: u16) -> Result<Outcome, NoMemory>
+    ensures { (b : Before) (a : ℕ → ℕ) → b.number ≡ number → IfOk result (λ x. outcome_of b.input x ≡ telling_pid b a) }
+{
+    let values = vec![in alloc;
+        Argument::Word(number),
+        Argument::Word(1),
+        Argument::Word(0),
+    ]?;
+    let bytes = vec![in alloc; (number % 256) as u8, (number / 256) as u8, 1, 0, 0, 0]?;
+    let parts = vec![in alloc; Bytes::new(bytes)]?;
+    Ok(Outcome::Does(Done {
+        values,
+        parts,
         edits: Vec::new(alloc),
         read: 0,
         piece: Vec::new(alloc),
-        lines,
-    })
+    }))
 }
 
-/// The registers as a call comes back: AX has the error number, and the arguments are gone.
-pub(crate) fn returned(cpu: &Cpu, words: u16, error: u16) -> Cpu
-    ensures { result ≡ returned cpu.now cpu.now.ip words error }
-{
-    let mut after = *cpu;
-    after.ax = error;
-    after.sp = ((cpu.sp as u32 + 2 * words as u32) % 65536) as u16;
-    after
-}
+// DosRead(handle, buffer, count, pdone)
 
-/// A call that comes back, and writes nothing.
-pub(crate) fn back(
-    alloc: Global,
-    call: &Named,
-    cpu: Cpu,
-    error: u16,
-    values: &[Argument],
-    edits: Vec<Edit>,
-) -> Result<Outcome, NoMemory>
-    requires short_name { length call.now.name.now ≤ 20 }
-    requires few_args { length call.now.args.now ≤ 12 }
-    requires few_values { length values.now ≤ 4 }
-    ensures { IfOk result (λ x. (b : Before) → b.number ≡ call.now.number → IsOutcome b x (back b cpu b.view.bytes call.now.name.now call.now.args.now error values.now (changes_of edits.items))) }
+/// The first bytes, or all of fewer.
+#[tactic(auto, using(std::proofs::lemmas::List::take_all))]
+fn front(bytes: &[u8], count: u16) -> &[u8]
+    ensures front { result.now ≡ take count bytes.now }
+    ensures most { length result.now ≤ count }
 {
-    let lines = called(alloc, call, error, values, &edits)?;
-    Ok(Outcome {
-        cpu,
-        state: State::Live,
-        writes: Vec::new(alloc),
-        edits,
-        read: 0,
-        piece: Vec::new(alloc),
-        lines,
-    })
-}
-
-/// A call without a pointer, by what it comes to.
-pub(crate) fn ruled(
-    alloc: Global,
-    call: &Named,
-    cpu: &Cpu,
-    words: u16,
-    verdict: Verdict,
-) -> Result<Outcome, NoMemory>
-    requires short_name { length call.now.name.now ≤ 20 }
-    requires few_args { length call.now.args.now ≤ 12 }
-    ensures { IfOk result (λ x. (b : Before) → b.number ≡ call.now.number → b.cpu ≡ cpu.now → IsOutcome b x (ruled b b.cpu.ip words call.now.name.now call.now.args.now (ruling_of verdict))) }
-{
-    let after = returned(cpu, words, verdict.error);
-    back(alloc, call, after, verdict.error, &[], verdict.edits)
-}
-
-/// A value that is a word.
-pub(crate) fn written_word(
-    alloc: Global,
-    selector: u16,
-    offset: u16,
-    value: u32,
-) -> Result<Reply, NoMemory>
-    ensures { IfOk result (λ r. written_by r ≡ written_word selector offset value) }
-{
-    if value > 65535 {
-        return Err(NoMemory);
-    }
-    let part = vec![in alloc; (value % 256) as u8, (value / 256) as u8]?;
-    let shown = Argument::Word(value as u16);
-    Ok(Reply {
-        selector,
-        offset,
-        part,
-        shown,
-    })
-}
-
-/// A value of four bytes, the low word first.
-pub(crate) fn written_long(
-    alloc: Global,
-    selector: u16,
-    offset: u16,
-    value: u32,
-) -> Result<Reply, NoMemory>
-    ensures { IfOk result (λ r. written_by r ≡ written_long selector offset value) }
-{
-    let low = value % 65536;
-    let high = value / 65536;
-    let part = vec![in alloc;
-        (low % 256) as u8,
-        (low / 256) as u8,
-        (high % 256) as u8,
-        (high / 256) as u8,
-    ]?;
-    let shown = Argument::Long(high as u16, low as u16);
-    Ok(Reply {
-        selector,
-        offset,
-        part,
-        shown,
-    })
-}
-
-/// A call with a good pointer that comes back with 0 and writes its value.
-fn valued(
-    alloc: Global,
-    call: &Named,
-    cpu: Cpu,
-    reply: Reply,
-    edits: Vec<Edit>,
-) -> Result<Outcome, NoMemory>
-    requires short_name { length call.now.name.now ≤ 20 }
-    requires few_args { length call.now.args.now ≤ 12 }
-    ensures { IfOk result (λ x. (b : Before) → b.number ≡ call.now.number → IsOutcome b x
-        (back b cpu (put_at_pointer b.view.held b.view.bytes reply.selector reply.offset reply.part.items) call.now.name.now call.now.args.now 0 (reply.shown ∷ []) (changes_of edits.items))) }
-{
-    let lines = called(alloc, call, 0, &[reply.shown], &edits)?;
-    let mut writes = Vec::new(alloc);
-    writes.push(Write {
-        selector: reply.selector,
-        offset: reply.offset,
-        part: reply.part,
-    })?;
-    Ok(Outcome {
-        cpu,
-        state: State::Live,
-        writes,
-        edits,
-        read: 0,
-        piece: Vec::new(alloc),
-        lines,
-    })
-}
-
-/// A call with a good pointer, by what it comes to: at an error nothing is written.
-pub(crate) fn ruled_at(
-    alloc: Global,
-    call: &Named,
-    cpu: &Cpu,
-    words: u16,
-    reply: Reply,
-    verdict: Verdict,
-) -> Result<Outcome, NoMemory>
-    requires short_name { length call.now.name.now ≤ 20 }
-    requires few_args { length call.now.args.now ≤ 12 }
-    ensures { IfOk result (λ x. (b : Before) → b.number ≡ call.now.number → b.cpu ≡ cpu.now → IsOutcome b x
-        (ruled_at b b.cpu.ip words call.now.name.now call.now.args.now (written_by reply) (ruling_of verdict))) }
-{
-    let after = returned(cpu, words, verdict.error);
-    if verdict.error == 0 {
-        valued(alloc, call, after, reply, verdict.edits)
+    if (count as usize) < bytes.len() {
+        &bytes[..count as usize]
     } else {
-        back(alloc, call, after, verdict.error, &[], Vec::new(alloc))
+        bytes
+    }
+}
+
+fn reading(alloc: Global, input: &[u8], words: &[u16]) -> Result<Outcome, NoMemory>
+    requires { 6 ≤ length words.now }
+    ensures { (b : Before) → b.input ≡ input.now → IfOk result (λ x. outcome_of b.input x ≡ reading b (slice_index words.now)) }
+{
+    if words[5] != 0 {
+        return fails(alloc, 6, 0);
+    }
+    let got = front(input, words[2]);
+    let count = got.len() as u16;
+    let values = one_value(alloc, count)?;
+    let parts = vec![in alloc;
+        Bytes::from_slice(alloc, got)?,
+        word_bytes(alloc, u32::from(count))?,
+    ]?;
+    Ok(Outcome::Does(Done {
+        values,
+        parts,
+        edits: Vec::new(alloc),
+        read: words[2] as usize,
+        piece: Vec::new(alloc),
+    }))
+}
+
+// DosWrite(handle, buffer, count, pdone)
+
+fn is_console(handle: u16) -> bool
+    ensures { result ≡ is_console handle }
+{
+    handle == 1 || handle == 2
+}
+
+impl World {
+    fn writing(
+        &self,
+        alloc: Global,
+        number: u16,
+        process: &Process,
+        words: &[u16],
+    ) -> Result<Outcome, NoMemory>
+        requires { 6 ≤ length words.now }
+        ensures { IfOk result (λ x. let b = before_call self.now number process.now in outcome_of b.input x ≡ writing b (slice_index words.now)) }
+    {
+        let count = words[2];
+        if !is_console(words[5]) {
+            return fails(alloc, 6, count);
+        }
+        let values = one_value(alloc, count)?;
+        let parts = vec![in alloc; word_bytes(alloc, u32::from(count))?]?;
+        let piece = self.range(alloc, process, words[4], words[3], count)?;
+        Ok(Outcome::Does(Done {
+            values,
+            parts,
+            edits: Vec::new(alloc),
+            read: 0,
+            piece,
+        }))
+    }
+
+    fn left(&self) -> &[u8]
+        ensures { result.now ≡ self.now.world.input }
+    {
+        self.input.as_slice()
+    }
+
+    fn available(&self) -> u32
+        ensures { result ≡ self.now.avail }
+    {
+        self.avail
+    }
+
+    /// How the call of a service comes out, by its words from the top of the stack.
+    #[tactic(auto, unfolding(o2_world::specs::Calls::row_of))]
+    pub(crate) fn outcome(
+        &self,
+        alloc: Global,
+        n: u16,
+        process: &Process,
+        service: u16,
+        slots: &[Slot],
+        a: &[u16],
+    ) -> Result<Outcome, NoMemory>
+        requires words { 6 ≤ length a.now }
+        requires slots { slots.now ≡ slots_by (row_of service) }
+        ensures { IfOk result (λ x. let b = before_call self.now n process.now in outcome_of b.input x ≡ outcome_by (row_of service) b (slice_index a.now)) }
+    {
+        let cpu = registers(process);
+        match service {
+            1 => Ok(Outcome::Leaves(a[1], a[0])),
+            2 => telling_pid(alloc, n),
+            3 => reading(alloc, self.left(), a),
+            4 => self.writing(alloc, n, process, a),
+            5 => ruled(alloc, slots, self.allocation(alloc, n, a[3], a[0])),
+            6 => ruled(alloc, slots, self.reallocation(alloc, n, a[1], a[0])),
+            7 => ruled(alloc, slots, self.freeing(alloc, n, a[0], &cpu)),
+            8 => ruled(alloc, slots, Ok(self.sizing(alloc, n, a[2]))),
+            9 => ruled(alloc, slots, self.locking(alloc, n, a[0])),
+            10 => ruled(alloc, slots, self.unlocking(alloc, n, a[0])),
+            11 => ruled(alloc, slots, self.aliasing(alloc, n, a[2])),
+            12 => ruled(
+                alloc,
+                slots,
+                self.naming_by(alloc, n, process, a[4], a[3], a[2]),
+            ),
+            13 => ruled(alloc, slots, self.sharing_by(alloc, n, process, a[3], a[2])),
+            14 => ruled(alloc, slots, self.giving(alloc, n, a[3], a[2])),
+            15 => ruled(alloc, slots, self.getting(alloc, n, a[0])),
+            16 => {
+                let verdict = self.huge_allocation(alloc, n, a[5], a[4], a[1], a[0]);
+                ruled(alloc, slots, verdict)
+            }
+            17 => {
+                let verdict = self.huge_reallocation(alloc, n, a[2], a[1], a[0], &cpu);
+                ruled(alloc, slots, verdict)
+            }
+            18 => ruled(alloc, slots, Ok(grants(SHIFT, Vec::new(alloc)))),
+            19 => ruled(alloc, slots, Ok(grants(self.available(), Vec::new(alloc)))),
+            _ => Ok(Outcome::Fails(0, Vec::new(alloc))),
+        }
     }
 }

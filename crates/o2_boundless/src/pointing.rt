@@ -5,23 +5,15 @@ ghost use Rattle.o2_isa.specs.View.{bound_in};
 ghost use Rattle.o2_isa.specs.Pointers.{may_read, may_write, range_of};
 ghost use Rattle.o2_isa.specs.Parts.{put_part};
 ghost use Rattle.o2_world.specs.Views.{view_of, hold_of, holds_in, segment_bytes, bytes_in, with_bytes};
-ghost use Rattle.o2_boundless.specs.Outcomes.{written, is_behind, reaches};
+ghost use Rattle.o2_boundless.specs.Effects.{written, is_behind, reaches};
 
 use crate::look::{held_under, segment_of};
 use crate::rulings::{is_local, is_null};
 use crate::{Held, Process, Segment, World};
-use o2_base::NoMemory;
+use o2_base::{Bytes, NoMemory};
 use o2_desc::Access;
 use o2_isa::Cpu;
 use std::alloc::Global;
-
-/// Bytes that a call writes behind a pointer.
-#[derive(Drop)]
-pub struct Write {
-    pub selector: u16,
-    pub offset: u16,
-    pub part: Vec<u8>,
-}
 
 /// What a segment register with this selector holds.
 pub(crate) fn bound(held: &[(u16, Held)], selector: u16) -> Option<&Held>
@@ -36,7 +28,7 @@ pub(crate) fn bound(held: &[(u16, Held)], selector: u16) -> Option<&Held>
 
 /// Whether so many bytes from an offset on are those of a name.
 #[tactic(auto, using(crate::proofs::Pointers::bytes))]
-fn has_bytes(names: &[(u64, Segment)], name: u64, offset: u16, count: u16) -> bool
+fn has_bytes(names: &[(u64, Segment)], name: u64, offset: u16, count: u32) -> bool
     ensures { result ≡ nat_le (offset + count) (length (bytes_in names.now name)) }
 {
     let end = offset as usize + count as usize;
@@ -51,7 +43,7 @@ fn reaches(
     names: &[(u64, Segment)],
     writes: bool,
     offset: u16,
-    count: u16,
+    count: u32,
     held: Option<&Held>,
 ) -> bool
     ensures { result ≡ reaches (bytes_in names.now) writes offset count (option_map hold_of (option_copied held.entry)) }
@@ -73,7 +65,7 @@ fn may_write(
     process: &Process,
     selector: u16,
     offset: u16,
-    count: u16,
+    count: u32,
 ) -> bool
     ensures { result ≡ may_write (view_of names.now process.now) selector offset count }
 {
@@ -87,7 +79,7 @@ fn may_read(
     process: &Process,
     selector: u16,
     offset: u16,
-    count: u16,
+    count: u32,
 ) -> bool
     ensures { result ≡ may_read (view_of names.now process.now) selector offset count }
 {
@@ -101,7 +93,7 @@ impl World {
         process: &Process,
         selector: u16,
         offset: u16,
-        count: u16,
+        count: u32,
     ) -> bool
         ensures { result ≡ may_write (view_of self.now.world.names process.now) selector offset count }
     {
@@ -109,7 +101,7 @@ impl World {
     }
 
     /// Whether a pointer of a process is good to read through.
-    pub(crate) fn may_read(&self, process: &Process, selector: u16, offset: u16, count: u16) -> bool
+    pub(crate) fn may_read(&self, process: &Process, selector: u16, offset: u16, count: u32) -> bool
         ensures { result ≡ may_read (view_of self.now.world.names process.now) selector offset count }
     {
         may_read(&self.names, process, selector, offset, count)
@@ -191,7 +183,7 @@ fn range(
     }
 }
 
-// Writes.
+// What is written.
 
 fn put_part(alloc: Global, bytes: &[u8], at: u16, part: &[u8]) -> Result<Vec<u8>, NoMemory>
     ensures { IfOk result (λ v. v.items ≡ put_part bytes.now at part.now) }
@@ -221,30 +213,39 @@ fn is_behind(held: &[(u16, Held)], selector: u16, name: u64) -> bool
     is_name(bound(held, selector), name)
 }
 
-fn put_behind(alloc: Global, behind: bool, bytes: &[u8], write: &Write) -> Result<Vec<u8>, NoMemory>
-    ensures { IfOk result (λ v. v.items ≡ (if behind then put_part bytes.now write.now.offset write.now.part.items else bytes.now)) }
+fn put_behind(
+    alloc: Global,
+    behind: bool,
+    bytes: &[u8],
+    offset: u16,
+    part: &[u8],
+) -> Result<Vec<u8>, NoMemory>
+    ensures { IfOk result (λ v. v.items ≡ (if behind then put_part bytes.now offset part.now else bytes.now)) }
 {
     if behind {
-        put_part(alloc, bytes, write.offset, &write.part)
+        put_part(alloc, bytes, offset, part)
     } else {
         Ok(Vec::from_slice(alloc, bytes)?)
     }
 }
 
-#[tactic(auto, using(crate::proofs::Writing::writing))]
 fn bytes_after(
     alloc: Global,
     names: &[(u64, Segment)],
     held: &[(u16, Held)],
-    writes: &[Write],
+    targets: &[(u16, u16)],
+    parts: &[Bytes],
     name: u64,
 ) -> Result<Vec<u8>, NoMemory>
-    ensures { IfOk result (λ v. v.items ≡ written (holds_in held.now) writes.now (bytes_in names.now) name) }
+    ensures { IfOk result (λ v. v.items ≡ written (holds_in held.now) targets.now parts.now (bytes_in names.now) name) }
 {
     let mut bytes = bytes_of(alloc, names, name)?;
-    for write in writes {
-        let behind = is_behind(held, write.selector, name);
-        bytes = put_behind(alloc, behind, &bytes, write)?;
+    let count = targets.len().min(parts.len());
+    for k in 0..count {
+        let target = targets[k];
+        let part = parts[k].as_slice();
+        let behind = is_behind(held, target.0, name);
+        bytes = put_behind(alloc, behind, &bytes, target.1, part)?;
     }
     Ok(bytes)
 }
@@ -266,19 +267,20 @@ fn with(segment: &Segment, bytes: Vec<u8>) -> Result<Segment, NoMemory>
     })
 }
 
-/// The names behind writes.
+/// The names behind what is written.
 #[tactic(auto, using(crate::proofs::Writing::rewriting, std::proofs::lemmas::Grind::common_steps))]
-pub(crate) fn with_writes(
+pub(crate) fn with_parts(
     alloc: Global,
     names: &[(u64, Segment)],
     held: &[(u16, Held)],
-    writes: &[Write],
+    targets: &[(u16, u16)],
+    parts: &[Bytes],
 ) -> Result<Vec<(u64, Segment)>, NoMemory>
-    ensures { IfOk result (λ v. v.items ≡ with_bytes names.now (written (holds_in held.now) writes.now (bytes_in names.now))) }
+    ensures { IfOk result (λ v. v.items ≡ with_bytes names.now (written (holds_in held.now) targets.now parts.now (bytes_in names.now))) }
 {
     let mut after = Vec::new(alloc);
     for pair in names {
-        let bytes = bytes_after(alloc, names, held, writes, pair.0)?;
+        let bytes = bytes_after(alloc, names, held, targets, parts, pair.0)?;
         let segment = with(&pair.1, bytes)?;
         after.push((pair.0, segment))?;
     }

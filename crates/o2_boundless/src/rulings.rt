@@ -7,13 +7,13 @@ ghost use Rattle.o2_isa.specs.View.{is_local, is_null};
 ghost use Rattle.o2_world.specs.Changes.{Drops};
 ghost use Rattle.o2_world.specs.Rulings.{refusal, grants, held_under, free_index, full_size, made_segment, held_by_call, region_by, allocation_at, allocation, is_alias};
 ghost use Rattle.o2_world.specs.Rulings.{is_in_run, keeps_its_size, reallocation_with, reallocation_of, reallocation, members, is_later, is_index, in_use, by_load};
-ghost use Rattle.o2_world.specs.Rulings.{is_last, is_gone, freed_cpu, freeing_with, freeing_of, freeing, freeing_cpu, dropped_by, dropped_indexes, sizing_with, sizing_of};
+ghost use Rattle.o2_world.specs.Rulings.{freeing_with, freeing_of, freeing, sizing_with, sizing_of};
 ghost use Rattle.o2_world.specs.Rulings.{sizing, is_discardable, locking_with, locking_of, locking, unlocking_with, unlocking_of, unlocking, held_as_code, aliasing_at};
 ghost use Rattle.o2_world.specs.Rulings.{aliasing_of, aliasing};
 ghost use Rattle.o2_world.specs.Known.{marks_of};
 ghost use Rattle.o2_boundless.specs.Shown.{known_by};
-ghost use Rattle.o2_boundless.specs.Edits.{change_of, changes_of};
-ghost use Rattle.o2_boundless.specs.Verdicts.{ruling_of, marks_in, gone_at};
+ghost use Rattle.o2_boundless.specs.Edits.{changes_of};
+ghost use Rattle.o2_boundless.specs.Verdicts.{ruling_of, marks_in};
 
 use crate::changing::Edit;
 use crate::look::{held_by, segment_of};
@@ -305,15 +305,6 @@ impl World {
 
 // DosFreeSeg(sel)
 
-fn is_last(held: Option<&Held>) -> bool
-    ensures { result ≡ is_last (option_copied held.entry) }
-{
-    match held {
-        None => false,
-        Some(held) => held.holds <= 1,
-    }
-}
-
 #[tactic(auto, using(std::proofs::lemmas::Grind::common_steps, crate::proofs::Lists::drops))]
 fn drops(alloc: Global, number: u16, indexes: &[u16]) -> Result<Vec<Edit>, NoMemory>
     ensures { IfOk result (λ v. changes_of v.items ≡ map (λ i. Drops number i 1) indexes.now) }
@@ -332,35 +323,6 @@ fn freeing_with(alloc: Global, number: u16, cpu: &Cpu, indexes: &[u16]) -> Resul
         return Ok(refusal(alloc, 5));
     }
     Ok(grants(0, drops(alloc, number, indexes)?))
-}
-
-#[tactic(auto, using(crate::proofs::Lists::dropped))]
-fn put_dropped(indexes: &mut Vec<u16>, edit: &Edit) -> Result<(), NoMemory>
-    ensures { IfOk result (λ _. indexes.new.items ≡ indexes.old.items ++ dropped_by (change_of edit.now) []) }
-{
-    match edit {
-        Edit::Drops(_, index, _) => indexes.push(*index)?,
-        Edit::Makes(_) => {}
-        Edit::Resizes(_, _) => {}
-        Edit::Locks(_, _) => {}
-        Edit::Holds(_, _, _) => {}
-        Edit::Finishes(_, _) => {}
-        Edit::Reserves(_) => {}
-        Edit::Names(_, _) => {}
-    }
-    Ok(())
-}
-
-/// The indexes of which holds go.
-#[tactic(auto, using(crate::proofs::Lists::dropped))]
-pub(crate) fn dropped_indexes(alloc: Global, edits: &[Edit]) -> Result<Vec<u16>, NoMemory>
-    ensures { IfOk result (λ v. v.items ≡ dropped_indexes (changes_of edits.now)) }
-{
-    let mut indexes = Vec::new(alloc);
-    for edit in edits {
-        put_dropped(&mut indexes, edit)?;
-    }
-    Ok(indexes)
 }
 
 impl World {
@@ -430,34 +392,6 @@ impl World {
             cpu,
             self.held_under(number, selector),
         )
-    }
-
-    fn is_gone_at(&self, number: u16, selector: u16, index: u16) -> bool
-        ensures { result ≡ gone_at (known_by self.now) number selector index }
-    {
-        is_index(selector, index) && is_last(held_by(&self.processes, number, index))
-    }
-
-    fn is_gone(&self, number: u16, indexes: &[u16], selector: u16) -> bool
-        ensures { result ≡ is_gone (known_by self.now) number indexes.now selector }
-    {
-        indexes
-            .iter()
-            .any(|i| self.is_gone_at(number, selector, *i))
-    }
-
-    /// The registers behind a DosFreeSeg: DS and ES are 0 where they named what is gone.
-    pub(crate) fn freed_cpu(&self, number: u16, indexes: &[u16], cpu: &Cpu) -> Cpu
-        ensures { result ≡ freed_cpu (known_by self.now) number indexes.now cpu.now }
-    {
-        let mut after = *cpu;
-        if self.is_gone(number, indexes, cpu.ds) {
-            after.ds = 0;
-        }
-        if self.is_gone(number, indexes, cpu.es) {
-            after.es = 0;
-        }
-        after
     }
 }
 

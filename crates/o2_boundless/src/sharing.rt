@@ -3,6 +3,8 @@ ghost use Rattle.std.specs.Prelude.{◌≡◌, ◌<◌, ◌++◌, ◌∷◌, [],
 ghost use Rattle.std.specs.Option.{option_copied};
 ghost use Rattle.o2_world.specs.World.{ByCall};
 ghost use Rattle.o2_world.specs.SharedRulings.{each_more, getting, getting_at, getting_from, giving, giving_of, index_of, is_share, is_shared, is_shared_with, lacks_flag, marks_by_call, naming, naming_at, one_more, shared_segment, sharing, sharing_at, sharing_from, sharing_of};
+ghost use Rattle.o2_world.specs.SharedNames.{name_by, text_at};
+ghost use Rattle.o2_world.specs.Views.{view_of};
 ghost use Rattle.o2_boundless.specs.Shown.{known_by};
 ghost use Rattle.o2_boundless.specs.Edits.{changes_of};
 ghost use Rattle.o2_boundless.specs.Verdicts.{ruling_of, marks_in};
@@ -190,7 +192,7 @@ impl World {
         Ok(grants(8 * index as u32 + 7, edits))
     }
 
-    pub(crate) fn naming(
+    fn naming(
         &self,
         alloc: Global,
         number: u16,
@@ -209,6 +211,22 @@ impl World {
             return Ok(refusal(alloc, 8));
         }
         self.naming_at(alloc, number, size, name, self.free_index(0))
+    }
+
+    /// By the text behind a pointer.
+    pub(crate) fn naming_by(
+        &self,
+        alloc: Global,
+        number: u16,
+        process: &Process,
+        size: u16,
+        selector: u16,
+        offset: u16,
+    ) -> Result<Verdict, NoMemory>
+        ensures { IfOk result (λ v. ruling_of v ≡ naming (known_by self.now) number size (name_by (text_at (view_of self.now.world.names process.now) selector offset))) }
+    {
+        let name = self.name_at(alloc, process, selector, offset)?;
+        self.naming(alloc, number, size, name)
     }
 
     // DosGetShrSeg(name, psel)
@@ -294,12 +312,7 @@ impl World {
         }
     }
 
-    pub(crate) fn sharing(
-        &self,
-        alloc: Global,
-        number: u16,
-        name: Option<Bytes>,
-    ) -> Result<Verdict, NoMemory>
+    fn sharing(&self, alloc: Global, number: u16, name: Option<Bytes>) -> Result<Verdict, NoMemory>
         ensures { IfOk result (λ v. ruling_of v ≡ sharing (known_by self.now) number name) }
     {
         match name {
@@ -309,6 +322,21 @@ impl World {
                 self.sharing_of(alloc, number, there)
             }
         }
+    }
+
+    /// By the text behind a pointer.
+    pub(crate) fn sharing_by(
+        &self,
+        alloc: Global,
+        number: u16,
+        process: &Process,
+        selector: u16,
+        offset: u16,
+    ) -> Result<Verdict, NoMemory>
+        ensures { IfOk result (λ v. ruling_of v ≡ sharing (known_by self.now) number (name_by (text_at (view_of self.now.world.names process.now) selector offset))) }
+    {
+        let name = self.name_at(alloc, process, selector, offset)?;
+        self.sharing(alloc, number, name)
     }
 
     // DosGiveSeg(sel, pid, psel)

@@ -2,12 +2,16 @@
 ghost use Rattle.std.specs.Prelude.{◌≡◌, ◌++◌, ◌∷◌, [], IfOk, drop, if◌then◌else◌};
 ghost use Rattle.o2_world.specs.World.{is_live};
 ghost use Rattle.o2_world.specs.Changes.{Finishes};
+ghost use Rattle.o2_world.specs.CallParts.{Effect as WorldEffect};
+ghost use Rattle.o2_boundless.specs.Called.{behind_effect};
 ghost use Rattle.o2_boundless.specs.Edits.{changes_of};
-ghost use Rattle.o2_boundless.specs.Worked.{with_state, with_writes, with_worker, with_input, with_console, with_report, worked_by};
+ghost use Rattle.o2_boundless.specs.Effects.{IsEffect};
+ghost use Rattle.o2_boundless.specs.Shown.{before_call};
+ghost use Rattle.o2_boundless.specs.Worked.{with_state, with_parts, with_worker, with_input, with_console, with_report, worked_by};
 
 use crate::changing::Edit;
-use crate::outcome::Outcome;
-use crate::pointing::{Write, with_writes};
+use crate::effect::Effect;
+use crate::pointing::with_parts;
 use crate::{Process, World};
 use o2_base::{Bytes, NoMemory};
 use o2_isa::Cpu;
@@ -61,11 +65,7 @@ fn with_state(
 
 /// All changes: where the process has ended, that comes behind them.
 #[tactic(auto, using(crate::proofs::Lists::drops))]
-pub(crate) fn all_edits(
-    number: u16,
-    state: State,
-    mut edits: Vec<Edit>,
-) -> Result<Vec<Edit>, NoMemory>
+fn all_edits(number: u16, state: State, mut edits: Vec<Edit>) -> Result<Vec<Edit>, NoMemory>
     ensures { IfOk result (λ v. changes_of v.items ≡ (if is_live state then changes_of edits.items else changes_of edits.items ++ Finishes number state ∷ [])) }
 {
     if !is_live(state) {
@@ -79,11 +79,12 @@ impl World {
         &mut self,
         alloc: Global,
         process: &Process,
-        writes: &[Write],
+        targets: &[(u16, u16)],
+        parts: &[Bytes],
     ) -> Result<(), NoMemory>
-        ensures { IfOk result (λ _. self.new ≡ with_writes process.now.held writes.now self.old) }
+        ensures { IfOk result (λ _. self.new ≡ with_parts process.now.held targets.now parts.now self.old) }
     {
-        self.names = with_writes(alloc, &self.names, &process.held, writes)?;
+        self.names = with_parts(alloc, &self.names, &process.held, targets, parts)?;
         Ok(())
     }
 
@@ -116,23 +117,37 @@ impl World {
         Ok(())
     }
 
-    /// The world as what a call does leaves it, before its changes.
-    pub(crate) fn worked(
-        &self,
+    /// The world becomes what a call does leaves of it, before its changes.
+    fn work(
+        &mut self,
         alloc: Global,
         number: u16,
         process: &Process,
-        outcome: &Outcome,
-    ) -> Result<World, NoMemory>
-        ensures { IfOk result (λ w. w ≡ worked_by self.now number process.now outcome.now) }
+        effect: &Effect,
+    ) -> Result<(), NoMemory>
+        ensures { IfOk result (λ _. self.new ≡ worked_by self.old number process.now effect.now) }
     {
-        let mut world = self.copy(alloc)?;
-        world.write_behind(alloc, process, &outcome.writes)?;
-        let after = with_state(alloc, process, &outcome.cpu, outcome.state)?;
-        world.put_process(number, after);
-        world.take_input(alloc, outcome.read)?;
-        world.add_piece(alloc, &outcome.piece)?;
-        world.add_lines(alloc, &outcome.lines)?;
-        Ok(world)
+        self.write_behind(alloc, process, &effect.targets, &effect.parts)?;
+        let after = with_state(alloc, process, &effect.cpu, effect.state)?;
+        self.put_process(number, after);
+        self.take_input(alloc, effect.read)?;
+        self.add_piece(alloc, &effect.piece)?;
+        self.add_lines(alloc, &effect.lines)?;
+        Ok(())
+    }
+
+    /// The world becomes the one behind what a call of a process does.
+    pub(crate) fn take_effect(
+        &mut self,
+        alloc: Global,
+        n: u16,
+        process: &Process,
+        effect: Effect,
+    ) -> Result<(), NoMemory>
+        ensures { IfOk result (λ _. (e : WorldEffect) → IsEffect (before_call self.old n process.now) effect e → self.new ≡ behind_effect self.old n process.now e) }
+    {
+        self.work(alloc, n, process, &effect)?;
+        let edits = all_edits(n, effect.state, effect.edits)?;
+        self.change_all(alloc, &edits)
     }
 }
