@@ -1,10 +1,8 @@
 -- A call whose changes are made and whose value is written is seen in the world.
-use Rattle.std.proofs.Common.{◌≡◌, ℕ, ◌==◌, Bool, true, false, cond, if◌then◌else◌, List, Option, Some, None, is_some, option_map, ap, refl, sym, ◌∙◌, arith}
+use Rattle.std.proofs.Common.{◌≡◌, ℕ, ◌==◌, Bool, true, false, cond, if◌then◌else◌, List, Option, Some, is_some, option_map, ap, refl, sym, ◌∙◌, arith}
 use Rattle.std.proofs.lemmas.Bool.{false≢true, eq-eqb}
 use Rattle.o2_conf.specs.Dispatch.{Dispatch}
-use Rattle.o2_isa.specs.Parts.{put_part}
-use Rattle.o2_isa.specs.Pointers.{put_at_pointer, put_in}
-use Rattle.o2_isa.specs.View.{Hold, bound_in}
+use Rattle.o2_isa.specs.View.{Hold}
 use Rattle.o2_regions.specs.Maps.{Maps}
 use Rattle.o2_segbus.specs.Bus.{AreInside}
 use Rattle.o2_segbus.specs.Frames.{KeepsMaps, KeepsStore}
@@ -18,47 +16,29 @@ use Rattle.o2_world.specs.Holders.{process_at, with_process}
 use Rattle.o2_world.specs.Map.{get}
 use Rattle.o2_world.specs.Run.{before, changed, worked, working}
 use Rattle.o2_world.specs.Rulings.{Ruling}
-use Rattle.o2_world.specs.SegmentCalls.{Written}
+use Rattle.o2_world.specs.Slots.{Pointer, parts_in, put_all}
 use Rattle.o2_world.specs.Views.{bytes_in, holds_in}
 use Rattle.o2_world.specs.World.{Process, Setting, World}
 use Rattle.o2_world.proofs.BareChanges.{same_all, worked_bare}
-use Rattle.o2_gate.specs.declared.gathering.SegmentArguments.{SegmentArguments}
-use Rattle.o2_gate.specs.Replies.{bytes_by, written_of}
+use Rattle.o2_gate.specs.declared.arguments.Arguments.{Arguments}
+use Rattle.o2_gate.specs.Targets.{slots_of}
 use Rattle.o2_stands.specs.Moves.{stepped_to, with_running}
 use Rattle.o2_stands.specs.Parts.{Parts, Running, running_of}
 use Rattle.o2_stands.specs.Stands.{IsReady, Matches}
 use Rattle.o2_stands.proofs.Alike.{written_matches}
 use Rattle.o2_stands.proofs.Worlds.{put_here, put_other}
 use Rattle.o2_calls.specs.Acts.{ruling_of}
-use Rattle.o2_calls.specs.Seen.{Gives}
+use Rattle.o2_calls.specs.Seen.{Gives, written_in}
 use Rattle.o2_calls.specs.Tellings.{replied_by}
-use Rattle.o2_calls.proofs.Behind.{all_bytes, behind_bytes, behind_runs, live_same, own_bytes, put_bytes, valued}
+use Rattle.o2_calls.proofs.Behind.{all_bytes, behind_bytes, behind_runs, live_same, own_bytes, put_all_same, put_bytes, valued}
 use Rattle.o2_calls.proofs.Shapes.{calls_go_on, valued_gives}
 
--- What is written of a name depends on its bytes alone.
-
-by_point : (held : ℕ → Option Hold) (f g : ℕ → List ℕ) (n : ℕ) → f n ≡ g n → (error : ℕ) (o : Option Written) → bytes_by error o held f n ≡ bytes_by error o held g n
-unfolding put_at_pointer
-by_point held f g n e error None = e
-by_point held f g n e error (Some t) = go (error == 0)
-  where
-    put_same : (o : Option Hold) → put_in f t.offset t.part o n ≡ put_in g t.offset t.part o n
-    put_same None = e
-    put_same (Some h) = ap (λ (x : List ℕ). if n == h.name then put_part x t.offset t.part else x) e
-
-    at_same : put_at_pointer held f t.selector t.offset t.part n ≡ put_at_pointer held g t.selector t.offset t.part n
-    at_same = put_same (bound_in held t.selector)
-
-    go : (b : Bool) → cond b (put_at_pointer held f t.selector t.offset t.part) f n ≡ cond b (put_at_pointer held g t.selector t.offset t.part) g n
-    go true = at_same
-    go false = e
-
-module _ (s : Setting) (w : World) (d : Dispatch) (x : Process) (a : SegmentArguments) (next : ℕ) (at : process_at w.processes d.current ≡ Some x) where
+module _ (s : Setting) (w : World) (d : Dispatch) (x : Process) (a : Arguments) (next : ℕ) (at : process_at w.processes d.current ≡ Some x) where
   abbrev b : Before
   b = before s w d.current x
 
   abbrev r : Ruling
-  r = ruling_of a b.known d.current x.cpu
+  r = ruling_of a.request b.known d.current x.cpu
 
   abbrev e : Effect
   e = replied_by a b next
@@ -77,11 +57,21 @@ module _ (s : Setting) (w : World) (d : Dispatch) (x : Process) (a : SegmentArgu
     abbrev now : ℕ → Option Hold
     now = hold_in q.maps d.current
 
+    abbrev ps : List Pointer
+    ps = written_in a
+
+    abbrev parts : List (List ℕ)
+    parts = parts_in (slots_of a) r.value
+
+    by_point : (f g : ℕ → List ℕ) (n : ℕ) → f n ≡ g n → (t : Bool) → cond t (put_all now ps parts f) f n ≡ cond t (put_all now ps parts g) g n
+    by_point f g n e true = put_all_same now ps parts f g n e
+    by_point f g n e false = e
+
     written_at : (n : ℕ) → is_some (get u.names n) ≡ true → bytes_in v.names n ≡ (if present_in t n then bytes_there t n else bytes_in u.names n)
     written_at n live =
         behind_bytes (worked w d x e) r.changes e.bytes (put_bytes w.names e.bytes) n (live_same u v same_bare n ∙ live)
-        ∙ (valued (holds_in x.held) now w.next_name r.changes (bytes_in w.names) n r.error (written_of a r.value) (λ none z some. (valued_gives a b.known d.current x.cpu r.value z some, gives.aimed none z some))
-        ∙ (by_point now (all_bytes w.next_name r.changes (bytes_in w.names)) (bytes_in u.names) n (sym (behind_bytes w r.changes (bytes_in w.names) (own_bytes w.names) n live)) r.error (written_of a r.value)
+        ∙ (valued (holds_in x.held) now w.next_name r.changes (bytes_in w.names) n r.error ps parts (valued_gives a b.known d.current x.cpu) gives.aimed
+        ∙ (by_point (all_bytes w.next_name r.changes (bytes_in w.names)) (bytes_in u.names) n (sym (behind_bytes w r.changes (bytes_in w.names) (own_bytes w.names) n live)) (r.error == 0)
         ∙ sym (gives.bytes n live)))
 
     abbrev running : Running
@@ -89,9 +79,9 @@ module _ (s : Setting) (w : World) (d : Dispatch) (x : Process) (a : SegmentArgu
 
     runs_at : (n : ℕ) → option_map running_of (process_at v.processes n) ≡ (if n == d.current then Some running else option_map running_of (process_at u.processes n))
     runs_at n =
-        behind_runs (worked w d x e) r.changes (calls_go_on a b.known d.current x.cpu) n
+        behind_runs (worked w d x e) r.changes (calls_go_on a.request b.known d.current x.cpu) n
         ∙ go (n == d.current) refl
-        ∙ ap (λ (o : Option Running). if n == d.current then Some running else o) (sym (behind_runs w r.changes (calls_go_on a b.known d.current x.cpu) n))
+        ∙ ap (λ (o : Option Running). if n == d.current then Some running else o) (sym (behind_runs w r.changes (calls_go_on a.request b.known d.current x.cpu) n))
       where
         number_is : (i k : ℕ) → (i == k) ≡ true → i ≡ k
         number_is i k f = grind arith

@@ -1,5 +1,5 @@
 -- The bytes of names and the registers of processes behind the changes of a call.
-use Rattle.std.proofs.Common.{◌≡◌, ◌≢◌, ℕ, zero, suc, ◌+◌, ◌-◌, ◌<◌, ◌==◌, Bool, true, false, cond, if◌then◌else◌, List, [], ◌∷◌, ◌++◌, Option, Some, None, is_some, option_map, ap, refl, sym, ◌∙◌, subst, arith}
+use Rattle.std.proofs.Common.{◌≡◌, ◌≢◌, ◌⊎◌, inl, inr, ℕ, zero, suc, ◌+◌, ◌-◌, ◌<◌, ◌==◌, Bool, true, false, cond, if◌then◌else◌, List, [], ◌∷◌, ◌++◌, Option, Some, None, is_some, option_map, ap, refl, sym, ◌∙◌, subst, arith}
 use Rattle.std.specs.Prelude.{slice_get}
 use Rattle.std.specs.List.{list_any}
 use Rattle.o2_isa.specs.View.{Hold, bound_in}
@@ -10,12 +10,11 @@ use Rattle.o2_world.specs.World.{Held, Process, Segment, World}
 use Rattle.o2_world.specs.Bare.{Bare, bare, bare_names}
 use Rattle.o2_world.specs.Changes.{Change, Makes, Resizes, Locks, Marks, Holds, Drops, Finishes, Reserves, Frees, Names, at_number, at_place, fewer, more, resized, swept, takes, with_all, with_change, with_changes}
 use Rattle.o2_world.specs.Holders.{is_held, process_at}
-use Rattle.o2_world.specs.SegmentCalls.{Written}
+use Rattle.o2_world.specs.Slots.{Pointer, put_all}
 use Rattle.o2_world.specs.Views.{bytes_in, segment_bytes, with_bytes}
 use Rattle.o2_world.proofs.MapLemmas.{get-at_key, get-filter, get-map}
-use Rattle.o2_gate.specs.Replies.{bytes_by}
 use Rattle.o2_stands.specs.Parts.{Running, running_of}
-use Rattle.o2_calls.specs.Seen.{IsAimedAt}
+use Rattle.o2_calls.specs.Seen.{AreAimed, IsAimedAt}
 
 number_is : (n k : ℕ) → (n == k) ≡ true → n ≡ k
 number_is n k e = grind arith
@@ -274,25 +273,50 @@ through next cs f offset part h n (GivesHolds are) older =
     holds_bytes next cs (put_in f offset part (Some h)) n are ∙ ap (λ (x : List ℕ). if n == h.name then put_part x offset part else x) (sym (holds_bytes next cs f n are))
 through next cs f offset part h n (GivesRun are) older = gifts_through next cs f offset part h n are older
 
-module _ (held now : ℕ → Option Hold) (next : ℕ) (cs : List Change) (f : ℕ → List ℕ) (n : ℕ) where
-  aimed : (t : Written) → IsGiving cs → IsAimedAt held now next t
-      → all_bytes next cs (put_at_pointer held f t.selector t.offset t.part) n ≡ put_at_pointer now (all_bytes next cs f) t.selector t.offset t.part n
-  unfolding put_at_pointer
-  aimed t gives a =
-      bytes_point next cs (put_in f t.offset t.part (bound_in held t.selector)) (put_in f t.offset t.part (Some a.hold)) n (ap (λ (o : Option Hold). put_in f t.offset t.part o n) a.was)
-      ∙ (through next cs f t.offset t.part a.hold n gives a.older
-      ∙ ap (λ (o : Option Hold). put_in (all_bytes next cs f) t.offset t.part o n) (sym a.still))
+-- What is written of a name depends on its bytes alone.
 
-  -- the value of a call, where it has one
-  pub valued : (error : ℕ) (o : Option Written) → (error ≡ 0 → (t : Written) → o ≡ Some t → IsGiving cs × IsAimedAt held now next t)
-      → all_bytes next cs (bytes_by error o held f) n ≡ bytes_by error o now (all_bytes next cs f) n
-  valued error None safe = refl
-  valued error (Some t) safe = go (error == 0) refl
-    where
-      go : (b : Bool) → (error == 0) ≡ b
-          → all_bytes next cs (cond b (put_at_pointer held f t.selector t.offset t.part) f) n ≡ cond b (put_at_pointer now (all_bytes next cs f) t.selector t.offset t.part) (all_bytes next cs f) n
-      go true e = (let s = safe (number_is error 0 e) t refl in aimed t s.0 s.1)
-      go false e = refl
+put_same : (f g : ℕ → List ℕ) (n offset : ℕ) (part : List ℕ) (o : Option Hold) → f n ≡ g n → put_in f offset part o n ≡ put_in g offset part o n
+put_same f g n offset part None e = e
+put_same f g n offset part (Some h) e = ap (λ (x : List ℕ). if n == h.name then put_part x offset part else x) e
+
+pub put_all_same : (held : ℕ → Option Hold) (ps : List Pointer) (parts : List (List ℕ)) (f g : ℕ → List ℕ) (n : ℕ) → f n ≡ g n → put_all held ps parts f n ≡ put_all held ps parts g n
+unfolding put_at_pointer
+put_all_same held [] parts f g n e = e
+put_all_same held (p ∷ ps) [] f g n e = e
+put_all_same held (p ∷ ps) (part ∷ parts) f g n e =
+    put_all_same held ps parts (put_at_pointer held f p.selector p.offset part) (put_at_pointer held g p.selector p.offset part) n (put_same f g n p.offset part (bound_in held p.selector) e)
+
+module _ (held now : ℕ → Option Hold) (next : ℕ) (cs : List Change) (n : ℕ) (gives : IsGiving cs) where
+  aimed : (f : ℕ → List ℕ) (p : Pointer) (part : List ℕ) → IsAimedAt held now next p
+      → all_bytes next cs (put_at_pointer held f p.selector p.offset part) n ≡ put_at_pointer now (all_bytes next cs f) p.selector p.offset part n
+  unfolding put_at_pointer
+  aimed f p part a =
+      bytes_point next cs (put_in f p.offset part (bound_in held p.selector)) (put_in f p.offset part (Some a.hold)) n (ap (λ (o : Option Hold). put_in f p.offset part o n) a.was)
+      ∙ (through next cs f p.offset part a.hold n gives a.older
+      ∙ ap (λ (o : Option Hold). put_in (all_bytes next cs f) p.offset part o n) (sym a.still))
+
+  aimed_all : (f : ℕ → List ℕ) (ps : List Pointer) (parts : List (List ℕ)) → AreAimed held now next ps
+      → all_bytes next cs (put_all held ps parts f) n ≡ put_all now ps parts (all_bytes next cs f) n
+  aimed_all f [] parts are = refl
+  aimed_all f (p ∷ ps) [] are = refl
+  aimed_all f (p ∷ ps) (part ∷ parts) are =
+      aimed_all (put_at_pointer held f p.selector p.offset part) ps parts are.1
+      ∙ put_all_same now ps parts (all_bytes next cs (put_at_pointer held f p.selector p.offset part)) (put_at_pointer now (all_bytes next cs f) p.selector p.offset part) n (aimed f p part are.0)
+
+-- the value of a call, where it has one
+pub valued : (held now : ℕ → Option Hold) (next : ℕ) (cs : List Change) (f : ℕ → List ℕ) (n error : ℕ) (ps : List Pointer) (parts : List (List ℕ)) → (ps ≡ []) ⊎ IsGiving cs
+    → (error ≡ 0 → AreAimed held now next ps)
+    → all_bytes next cs (if error == 0 then put_all held ps parts f else f) n ≡ (if error == 0 then put_all now ps parts (all_bytes next cs f) else all_bytes next cs f) n
+valued held now next cs f n error ps parts gives safe = go (error == 0) refl gives
+  where
+    nowhere : ps ≡ [] → all_bytes next cs (put_all held ps parts f) n ≡ put_all now ps parts (all_bytes next cs f) n
+    nowhere none = subst (λ (qs : List Pointer). all_bytes next cs (put_all held qs parts f) n ≡ put_all now qs parts (all_bytes next cs f) n) (sym none) refl
+
+    go : (b : Bool) → (error == 0) ≡ b → (ps ≡ []) ⊎ IsGiving cs
+        → all_bytes next cs (cond b (put_all held ps parts f) f) n ≡ cond b (put_all now ps parts (all_bytes next cs f)) (all_bytes next cs f) n
+    go true e (inl none) = nowhere none
+    go true e (inr gives) = aimed_all held now next cs n gives f ps parts (safe (number_is error 0 e))
+    go false e gives = refl
 
 -- Worlds that are bare the same have the same live names.
 

@@ -1,6 +1,5 @@
 -- What is noted of each call has the lines of what the call changes.
 use Rattle.std.proofs.Common.{◌≡◌, ℕ, ◌/◌, ◌==◌, Bool, true, false, cond, List, [], length, Some, refl, sym, ap, ◌∙◌, subst, arith}
-use Rattle.std.specs.Prelude.{codes}
 use Rattle.std.specs.List.{list_any}
 use Rattle.o2_isa.specs.declared.cpu.Cpu.{Cpu}
 use Rattle.o2_regions.specs.declared.answer.Answer.{Answer}
@@ -12,13 +11,12 @@ use Rattle.o2_world.specs.Known.{Known, held_at as world_held, known_of}
 use Rattle.o2_world.specs.Rulings.{Ruling, full_size, held_under}
 use Rattle.o2_world.specs.SharedNames.{name_by}
 use Rattle.o2_world.specs.World.{Process, Setting, World}
-use Rattle.o2_gate.specs.declared.gathering.SegmentArguments.{SegmentArguments}
-use Rattle.o2_gate.specs.declared.gathering.SegmentArguments.TheVariants.{Alloc, Realloc, Free, Size, Lock, Unlock, Alias, Shared, Huge}
-use Rattle.o2_gate.specs.declared.huge.HugeArguments.TheVariants as huge
+use Rattle.o2_gate.specs.declared.requests.SegmentArguments.{SegmentArguments}
+use Rattle.o2_gate.specs.declared.requests.SegmentArguments.TheVariants.{Alloc, Realloc, Free, Size, Lock, Unlock, Alias, Shared, Huge}
+use Rattle.o2_gate.specs.declared.requests.HugeArguments.TheVariants as huge
 use Rattle.o2_gate.specs.declared.moves.Block.{Block}
-use Rattle.o2_gate.specs.declared.sharing.SharedArguments.TheVariants as shared
-use Rattle.o2_gate.specs.Replies.{name_of}
-use Rattle.o2_gate.specs.SharedReplies.{text_of}
+use Rattle.o2_gate.specs.declared.requests.SharedArguments.TheVariants as shared
+use Rattle.o2_gate.specs.Texts.{text_of}
 use Rattle.o2_stands.specs.Knows.{Others, known_in, others_of}
 use Rattle.o2_stands.specs.Parts.{Parts, held_in}
 use Rattle.o2_stands.specs.Runs.{AreFull, AreRuns}
@@ -63,26 +61,26 @@ module _ (p : Parts) (n : Maps) (s : Setting) (w : World) (x : Process) (pid : �
   abbrev IsAfter : Ruling → Type 0
   IsAfter r = (q j : ℕ) → world_held (with_changes w r.changes).processes q j ≡ held_in n q j
 
-  tells : (a : SegmentArguments) → IsAfter (ruling_of a k pid c) → Tells (name_of a) (blocks_of a pid (counted_by a p.maps pid) n) (ruling_of a k pid c)
-  tells (Alloc size t u flags) after = alloc_told (codes "DosAllocSeg") k pid size flags
-  tells (Realloc size selector) after = realloc_told (codes "DosReallocSeg") k pid (full_size size) (held_under k pid selector)
-  tells (Free selector) after = free_told (codes "DosFreeSeg") p o pid runs selector c
-  tells (Size selector t u) after = size_told (codes "DosSizeSeg") k pid (held_under k pid selector)
-  tells (Lock selector) after = lock_told (codes "DosLockSeg") k pid (held_under k pid selector)
-  tells (Unlock selector) after = unlock_told (codes "DosUnlockSeg") k pid (held_under k pid selector)
-  tells (Alias selector t u) after = alias_told (codes "DosCreateCSAlias") k pid (selector / 8) (held_under k pid selector)
-  tells (Shared (shared.Name size text t u)) after = name_told (codes "DosAllocShrSeg") k pid size (name_by (text_of text))
-  tells (Shared (shared.Share text t u)) after = share_told (codes "DosGetShrSeg") k pid (name_by (text_of text))
-  tells (Shared (shared.Give selector to t u)) after = give_told (codes "DosGiveSeg") p o pid runs selector to
-  tells (Shared (shared.Get selector)) after = get_told (codes "DosGetSeg") p o pid runs n w x at stands.held selector (λ j. after pid j)
-  tells (Huge (huge.Alloc segs part t u most flags)) after = huge_told (codes "DosAllocHuge") k pid segs part most flags
-  tells (Huge (huge.Realloc segs part selector)) after =
-      sized_told (codes "DosReallocHuge") p o pid runs full total lawful.maps stands.ready.named process n w stands.held still segs part selector c after
-  tells (Huge (huge.Shift t u)) after = shift_told (codes "DosGetHugeShift") k pid
+  tells : (cause : List ℕ) (a : SegmentArguments) → IsAfter (ruling_of a k pid c) → Tells cause (blocks_of a pid (counted_by a p.maps pid) n) (ruling_of a k pid c)
+  tells cause (Alloc size flags) after = alloc_told cause k pid size flags
+  tells cause (Realloc size selector) after = realloc_told cause k pid (full_size size) (held_under k pid selector)
+  tells cause (Free selector) after = free_told cause p o pid runs selector c
+  tells cause (Size selector) after = size_told cause k pid (held_under k pid selector)
+  tells cause (Lock selector) after = lock_told cause k pid (held_under k pid selector)
+  tells cause (Unlock selector) after = unlock_told cause k pid (held_under k pid selector)
+  tells cause (Alias selector) after = alias_told cause k pid (selector / 8) (held_under k pid selector)
+  tells cause (Shared (shared.Name size text)) after = name_told cause k pid size (name_by (text_of text))
+  tells cause (Shared (shared.Share text)) after = share_told cause k pid (name_by (text_of text))
+  tells cause (Shared (shared.Give selector to)) after = give_told cause p o pid runs selector to
+  tells cause (Shared (shared.Get selector)) after = get_told cause p o pid runs n w x at stands.held selector (λ j. after pid j)
+  tells cause (Huge (huge.Alloc segs part most flags)) after = huge_told cause k pid segs part most flags
+  tells cause (Huge (huge.Realloc segs part selector)) after =
+      sized_told cause p o pid runs full total lawful.maps stands.ready.named process n w stands.held still segs part selector c after
+  tells cause (Huge huge.Shift) after = shift_told cause k pid
 
-  noted_in : (a : SegmentArguments) (answer : Answer) → IsAfter (ruling_of a k pid c) → Answers (ruling_of a k pid c) answer
-      → AreTold (name_of a) (noted a pid (counted_by a p.maps pid) n (Done answer)) (ruling_of a k pid c).changes
-  noted_in a answer after answers = go (answer.error == 0) refl
+  noted_in : (cause : List ℕ) (a : SegmentArguments) (answer : Answer) → IsAfter (ruling_of a k pid c) → Answers (ruling_of a k pid c) answer
+      → AreTold cause (noted a pid (counted_by a p.maps pid) n (Done answer)) (ruling_of a k pid c).changes
+  noted_in cause a answer after answers = go (answer.error == 0) refl
     where
       number : (e : ℕ) → (e == 0) ≡ true → e ≡ 0
       number e is = grind arith
@@ -90,26 +88,26 @@ module _ (p : Parts) (n : Maps) (s : Setting) (w : World) (x : Process) (pid : �
       not_number : (e : ℕ) → (e == 0) ≡ false → e ≡ 0 → ⊥
       not_number e is same = grind arith
 
-      done : answer.error ≡ 0 → AreTold (name_of a) (blocks_of a pid (counted_by a p.maps pid) n answer.value) (ruling_of a k pid c).changes
+      done : answer.error ≡ 0 → AreTold cause (blocks_of a pid (counted_by a p.maps pid) n answer.value) (ruling_of a k pid c).changes
       done zero =
-          subst (λ (v : ℕ). AreTold (name_of a) (blocks_of a pid (counted_by a p.maps pid) n v) (ruling_of a k pid c).changes) (sym answers.value)
-          ((tells a after).told (sym answers.error ∙ zero))
+          subst (λ (v : ℕ). AreTold cause (blocks_of a pid (counted_by a p.maps pid) n v) (ruling_of a k pid c).changes) (sym answers.value)
+          ((tells cause a after).told (sym answers.error ∙ zero))
 
-      go : (b : Bool) → (answer.error == 0) ≡ b → AreTold (name_of a) (cond b (in_table (blocks_of a pid (counted_by a p.maps pid) n answer.value)) []) (ruling_of a k pid c).changes
+      go : (b : Bool) → (answer.error == 0) ≡ b → AreTold cause (cond b (in_table (blocks_of a pid (counted_by a p.maps pid) n answer.value)) []) (ruling_of a k pid c).changes
       go true is =
           let told = done (number answer.error is) in
-          subst (λ (bs : List Block). AreTold (name_of a) bs (ruling_of a k pid c).changes) (sym (all_in_table (blocks_of a pid (counted_by a p.maps pid) n answer.value) told.inside)) told
+          subst (λ (bs : List Block). AreTold cause bs (ruling_of a k pid c).changes) (sym (all_in_table (blocks_of a pid (counted_by a p.maps pid) n answer.value) told.inside)) told
       go false is =
-          subst (AreTold (name_of a) []) (sym ((ruling_refuses k pid a c).none (λ zero. not_number answer.error is (answers.error ∙ zero)))) (told_nothing (name_of a) [] refl refl)
+          subst (AreTold cause []) (sym ((ruling_refuses k pid a c).none (λ zero. not_number answer.error is (answers.error ∙ zero)))) (told_nothing cause [] refl refl)
 
   ruling_is : (a : SegmentArguments) → ruling_of a (known_of s w) pid c ≡ ruling_of a k pid c
   ruling_is a = same_ruling p.maps (known_of s w) k (known_is p s w lawful set stands) pid process c a
 
-  pub all_noted : (a : SegmentArguments) (answer : Answer) (q : Parts) → q.maps ≡ n → Matches q (with_all w (ruling_of a (known_of s w) pid c).changes) → Answers (ruling_of a (known_of s w) pid c) answer
-      → AreTold (name_of a) (noted a pid (counted_by a p.maps pid) n (Done answer)) (ruling_of a (known_of s w) pid c).changes
-  all_noted a answer q same matches answers =
-      subst (λ (r : Ruling). AreTold (name_of a) (noted a pid (counted_by a p.maps pid) n (Done answer)) r.changes) (sym (ruling_is a))
-      (noted_in a answer after (subst (λ (r : Ruling). Answers r answer) (ruling_is a) answers))
+  pub all_noted : (cause : List ℕ) (a : SegmentArguments) (answer : Answer) (q : Parts) → q.maps ≡ n → Matches q (with_all w (ruling_of a (known_of s w) pid c).changes) → Answers (ruling_of a (known_of s w) pid c) answer
+      → AreTold cause (noted a pid (counted_by a p.maps pid) n (Done answer)) (ruling_of a (known_of s w) pid c).changes
+  all_noted cause a answer q same matches answers =
+      subst (λ (r : Ruling). AreTold cause (noted a pid (counted_by a p.maps pid) n (Done answer)) r.changes) (sym (ruling_is a))
+      (noted_in cause a answer after (subst (λ (r : Ruling). Answers r answer) (ruling_is a) answers))
     where
       after : IsAfter (ruling_of a k pid c)
       after i j =

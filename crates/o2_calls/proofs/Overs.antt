@@ -15,7 +15,7 @@ use Rattle.o2_world.specs.Map.{get}
 use Rattle.o2_world.specs.Rulings.{Ruling, freeing, is_in_run}
 use Rattle.o2_world.specs.Tied.{IsTied}
 use Rattle.o2_world.specs.World.{Held, Process, Segment, Setting, World}
-use Rattle.o2_gate.specs.declared.gathering.SegmentArguments.{SegmentArguments}
+use Rattle.o2_gate.specs.declared.requests.SegmentArguments.{SegmentArguments}
 use Rattle.o2_stands.specs.Knows.{KnowsAs, Others, known_in, others_of}
 use Rattle.o2_stands.specs.Moves.{moved}
 use Rattle.o2_stands.specs.Parts.{Parts}

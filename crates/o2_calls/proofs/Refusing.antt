@@ -12,13 +12,13 @@ use Rattle.o2_world.specs.Rulings.{is_discardable, is_in_run, is_later, keeps_it
 use Rattle.o2_world.specs.Rulings.{sizing_of, sizing_with, unlocking_of, unlocking_with}
 use Rattle.o2_world.specs.SharedNames.{name_by}
 use Rattle.o2_world.specs.SharedRulings.{getting_at, getting_from, giving_of, holder, index_of, lacks_flag, naming, naming_at, shared_from, sharing, sharing_at, sharing_from, sharing_of}
-use Rattle.o2_gate.specs.declared.gathering.SegmentArguments.{SegmentArguments}
-use Rattle.o2_gate.specs.declared.gathering.SegmentArguments.TheVariants.{Alloc, Realloc, Free, Size, Lock, Unlock, Alias, Shared, Huge}
-use Rattle.o2_gate.specs.declared.huge.HugeArguments.{HugeArguments}
-use Rattle.o2_gate.specs.declared.huge.HugeArguments.TheVariants as huge
-use Rattle.o2_gate.specs.declared.sharing.SharedArguments.{SharedArguments}
-use Rattle.o2_gate.specs.declared.sharing.SharedArguments.TheVariants as shared
-use Rattle.o2_gate.specs.SharedReplies.{text_of}
+use Rattle.o2_gate.specs.declared.requests.SegmentArguments.{SegmentArguments}
+use Rattle.o2_gate.specs.declared.requests.SegmentArguments.TheVariants.{Alloc, Realloc, Free, Size, Lock, Unlock, Alias, Shared, Huge}
+use Rattle.o2_gate.specs.declared.requests.HugeArguments.{HugeArguments}
+use Rattle.o2_gate.specs.declared.requests.HugeArguments.TheVariants as huge
+use Rattle.o2_gate.specs.declared.requests.SharedArguments.{SharedArguments}
+use Rattle.o2_gate.specs.declared.requests.SharedArguments.TheVariants as shared
+use Rattle.o2_gate.specs.Texts.{text_of}
 use Rattle.o2_calls.specs.Acts.{ruling_of}
 use Rattle.o2_calls.specs.HugeActs.{huge_ruling}
 use Rattle.o2_calls.specs.SharedActs.{shared_ruling}
@@ -129,11 +129,11 @@ module _ (k : Known) (n : ℕ) where
   got_at i None = nothing _ refl
   got_at i (Some from) = got_from i from (k.held from i)
 
-  shared_refuses : (a : SharedArguments) → Refuses (shared_ruling a k n)
-  shared_refuses (shared.Name size t s o) = names size (name_by (text_of t))
-  shared_refuses (shared.Share t s o) = shares (name_by (text_of t))
-  shared_refuses (shared.Give s pid t o) = gives (s / 8) pid (held_under k n s)
-  shared_refuses (shared.Get s) = either (is_local s) _ _ (got_at (s / 8) (holder k (s / 8))) (nothing _ refl)
+  shared_refuses : (a : SharedArguments) (c : Cpu) → Refuses (shared_ruling a k n c)
+  shared_refuses (shared.Name size t) c = names size (name_by (text_of t))
+  shared_refuses (shared.Share t) c = shares (name_by (text_of t))
+  shared_refuses (shared.Give s pid) c = gives (s / 8) pid (held_under k n s)
+  shared_refuses (shared.Get s) c = either (is_local s) _ _ (got_at (s / 8) (holder k (s / 8))) (nothing _ refl)
 
   -- those on huge allocations
 
@@ -160,17 +160,17 @@ module _ (k : Known) (n : ℕ) where
   run_of i segs part c (Some h) = either (is_first i h) _ _ (run_sized segs part c h (members k n i h)) (nothing _ refl)
 
   huge_refuses : (a : HugeArguments) (c : Cpu) → Refuses (huge_ruling a k n c)
-  huge_refuses (huge.Alloc segs part s o most flags) c = runs segs part most flags
+  huge_refuses (huge.Alloc segs part most flags) c = runs segs part most flags
   huge_refuses (huge.Realloc segs part s) c = run_of (s / 8) segs part c (held_under k n s)
-  huge_refuses (huge.Shift s o) c = quiet _ refl
+  huge_refuses huge.Shift c = quiet _ refl
 
   pub ruling_refuses : (a : SegmentArguments) (c : Cpu) → Refuses (ruling_of a k n c)
-  ruling_refuses (Alloc size s o flags) c = allocs size flags
+  ruling_refuses (Alloc size flags) c = allocs size flags
   ruling_refuses (Realloc size s) c = reallocs (full_size size) (held_under k n s)
   ruling_refuses (Free s) c = frees s c (held_under k n s)
-  ruling_refuses (Size s t o) c = sizes (held_under k n s)
+  ruling_refuses (Size s) c = sizes (held_under k n s)
   ruling_refuses (Lock s) c = locks (held_under k n s)
   ruling_refuses (Unlock s) c = unlocks (held_under k n s)
-  ruling_refuses (Alias s t o) c = aliases (s / 8) (held_under k n s)
-  ruling_refuses (Shared a) c = shared_refuses a
+  ruling_refuses (Alias s) c = aliases (s / 8) (held_under k n s)
+  ruling_refuses (Shared a) c = shared_refuses a c
   ruling_refuses (Huge a) c = huge_refuses a c

@@ -6,8 +6,8 @@ use Rattle.o2_regions.specs.Maps.{Maps, IsProcess}
 use Rattle.o2_world.specs.World.{Cause, Held, ByLoad, ByCall, ByAlias}
 use Rattle.o2_world.specs.Known.{Known, Marks}
 use Rattle.o2_world.specs.Rulings.{by_load, freeing, freeing_of, freeing_with, held_under, is_later, members, refusal, sizing, sizing_of, sizing_with}
-use Rattle.o2_gate.specs.declared.gathering.SegmentArguments.{SegmentArguments}
-use Rattle.o2_gate.specs.declared.gathering.SegmentArguments.TheVariants.{Alloc, Realloc, Free, Size, Lock, Unlock, Alias, Shared, Huge}
+use Rattle.o2_gate.specs.declared.requests.SegmentArguments.{SegmentArguments}
+use Rattle.o2_gate.specs.declared.requests.SegmentArguments.TheVariants.{Alloc, Realloc, Free, Size, Lock, Unlock, Alias, Shared, Huge}
 use Rattle.o2_stands.specs.Knows.{KnowsAs}
 use Rattle.o2_stands.specs.Stands.{is_by_load}
 use Rattle.o2_stands.proofs.Ruled.{same_aliasing, same_allocation, same_freeing, same_freeing_cpu, same_locking, same_reallocation, same_sizing, same_unlocking}
@@ -19,24 +19,24 @@ use Rattle.o2_calls.proofs.SharedOver.{same_shared}
 
 module _ (m : Maps) (k l : Known) (same : KnowsAs m k l) (n : ℕ) (process : IsProcess m n) (c : Cpu) where
   pub same_ruling : (a : SegmentArguments) → ruling_of a k n c ≡ ruling_of a l n c
-  same_ruling (Alloc size s o flags) = same_allocation m k l same n size flags process
+  same_ruling (Alloc size flags) = same_allocation m k l same n size flags process
   same_ruling (Realloc size selector) = same_reallocation m k l same n size selector
   same_ruling (Free selector) = same_freeing m k l same n selector c
-  same_ruling (Size selector s o) = same_sizing m k l same n selector
+  same_ruling (Size selector) = same_sizing m k l same n selector
   same_ruling (Lock selector) = same_locking m k l same n selector
   same_ruling (Unlock selector) = same_unlocking m k l same n selector
-  same_ruling (Alias selector s o) = same_aliasing m k l same n selector process
-  same_ruling (Shared a) = same_shared m k l same a n
+  same_ruling (Alias selector) = same_aliasing m k l same n selector process
+  same_ruling (Shared a) = same_shared m k l same a n c
   same_ruling (Huge a) = same_huge m k l same a n c process
 
   pub same_cpu : (a : SegmentArguments) → cpu_of a k n c ≡ cpu_of a l n c
-  same_cpu (Alloc size s o flags) = refl
+  same_cpu (Alloc size flags) = refl
   same_cpu (Realloc size selector) = refl
   same_cpu (Free selector) = same_freeing_cpu m k l same n selector c
-  same_cpu (Size selector s o) = refl
+  same_cpu (Size selector) = refl
   same_cpu (Lock selector) = refl
   same_cpu (Unlock selector) = refl
-  same_cpu (Alias selector s o) = refl
+  same_cpu (Alias selector) = refl
   same_cpu (Shared a) = refl
   same_cpu (Huge a) = same_huge_cpu m k l same a n c
 

@@ -13,9 +13,9 @@ use Rattle.o2_world.specs.Known.{Known, known_of}
 use Rattle.o2_world.specs.Rulings.{Ruling, dropped_indexes}
 use Rattle.o2_world.specs.Tied.{AreUsed}
 use Rattle.o2_world.specs.World.{Process, Reserve, Setting, World}
-use Rattle.o2_gate.specs.declared.gathering.SegmentArguments.TheVariants.{Huge}
-use Rattle.o2_gate.specs.declared.huge.HugeArguments.{HugeArguments}
-use Rattle.o2_gate.specs.declared.huge.HugeArguments.TheVariants.{Realloc}
+use Rattle.o2_gate.specs.declared.requests.SegmentArguments.TheVariants.{Huge}
+use Rattle.o2_gate.specs.declared.requests.HugeArguments.{HugeArguments}
+use Rattle.o2_gate.specs.declared.requests.HugeArguments.TheVariants.{Realloc}
 use Rattle.o2_stands.specs.Knows.{known_in, others_of}
 use Rattle.o2_stands.specs.Parts.{Parts}
 use Rattle.o2_stands.specs.Runs.{AreFull, AreRuns}

@@ -13,8 +13,8 @@ use Rattle.o2_world.specs.Known.{Known, Marks as SegmentMarks}
 use Rattle.o2_world.specs.Rulings.{Ruling, full_size, held_under, in_use, indexes, members, refusal, region_by}
 use Rattle.o2_world.specs.SharedRulings.{marks_under, shared_from}
 use Rattle.o2_world.specs.World.{Held}
-use Rattle.o2_gate.specs.declared.huge.HugeArguments.{HugeArguments}
-use Rattle.o2_gate.specs.declared.huge.HugeArguments.TheVariants.{Alloc, Realloc, Shift}
+use Rattle.o2_gate.specs.declared.requests.HugeArguments.{HugeArguments}
+use Rattle.o2_gate.specs.declared.requests.HugeArguments.TheVariants.{Alloc, Realloc, Shift}
 use Rattle.o2_stands.specs.Knows.{KnowsAs}
 use Rattle.o2_stands.proofs.Ruled.{but_taken, chosen_same}
 use Rattle.o2_calls.specs.HugeActs.{huge_cpu, huge_ruling}
@@ -61,14 +61,14 @@ module _ (m : Maps) (k l : Known) (same : KnowsAs m k l) where
       region_is false = inr refl
 
   pub same_huge : (a : HugeArguments) (n : ℕ) (c : Cpu) → IsProcess m n → huge_ruling a k n c ≡ huge_ruling a l n c
-  same_huge (Alloc segs part s o most flags) n c process = same_making n segs part most flags process
+  same_huge (Alloc segs part most flags) n c process = same_making n segs part most flags process
   same_huge (Realloc segs part selector) n c process = ap (λ (z : Known). huge_reallocation z n segs part selector c) (but_taken m k l same)
-  same_huge (Shift s o) n c process = refl
+  same_huge Shift n c process = refl
 
   pub same_huge_cpu : (a : HugeArguments) (n : ℕ) (c : Cpu) → huge_cpu a k n c ≡ huge_cpu a l n c
-  same_huge_cpu (Alloc segs part s o most flags) n c = refl
+  same_huge_cpu (Alloc segs part most flags) n c = refl
   same_huge_cpu (Realloc segs part selector) n c = ap (λ (z : Known). huge_cpu (Realloc segs part selector) z n c) (but_taken m k l same)
-  same_huge_cpu (Shift s o) n c = refl
+  same_huge_cpu Shift n c = refl
 
 -- What they change.
 
@@ -201,12 +201,12 @@ made_of_runs k n segs part count flags (Some i) =
     of_runs_append _ _ (gifts_of_runs _ (member_gifts k.next i count flags ((n, 1) ∷ []) (indexes i (segments_of segs part)) (sizes_of segs part))) (tt, tt)
 
 pub runs_change : (a : HugeArguments) (k : Known) (n : ℕ) (c : Cpu) → AreOfRuns (huge_ruling a k n c).changes
-runs_change (Alloc segs part s o most flags) k n c =
+runs_change (Alloc segs part most flags) k n c =
     let wanted : ℕ = segments_of segs part in
     either AreOfRuns (is_huge_fault wanted most flags) _ _ tt
     (either AreOfRuns (nat_lt k.most (k.count + wanted)) _ _ tt (made_of_runs k n segs part (max wanted most) flags (free_run k (region_by n flags) (max wanted most))))
 runs_change (Realloc segs part selector) k n c = rehuged k n segs part selector c
-runs_change (Shift s o) k n c = tt
+runs_change Shift k n c = tt
 
 -- none ends a process
 pub runs_go_on : (a : HugeArguments) (k : Known) (n : ℕ) (c : Cpu) → AreNoEnds (huge_ruling a k n c).changes

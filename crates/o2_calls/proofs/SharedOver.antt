@@ -6,6 +6,7 @@ use Rattle.o2_base.specs.Selectors.{selector_of}
 use Rattle.o2_image.specs.ImageList.{ImageList}
 use Rattle.o2_regions.specs.declared.held.Region.TheVariants.{Shared}
 use Rattle.o2_regions.specs.declared.answer.Answer.{Answer}
+use Rattle.o2_isa.specs.declared.cpu.Cpu.{Cpu}
 use Rattle.o2_regions.specs.Maps.{Maps}
 use Rattle.o2_store.specs.Shelf.{Shelf}
 use Rattle.o2_isa.specs.View.{is_local}
@@ -14,8 +15,8 @@ use Rattle.o2_world.specs.Known.{Known, known_of, text_name}
 use Rattle.o2_world.specs.Rulings.{Ruling, free_index, grants, held_under, is_later, members, refusal}
 use Rattle.o2_world.specs.SharedRulings.{each_more, getting, getting_at, getting_from, giving, giving_of, holder, index_of, lacks_flag, naming, naming_at, one_more, sharing, sharing_at, sharing_from, sharing_of}
 use Rattle.o2_world.specs.World.{ByCall, Held, Setting, World}
-use Rattle.o2_gate.specs.declared.sharing.SharedArguments.{SharedArguments}
-use Rattle.o2_gate.specs.declared.sharing.SharedArguments.TheVariants.{Name, Share, Give, Get}
+use Rattle.o2_gate.specs.declared.requests.SharedArguments.{SharedArguments}
+use Rattle.o2_gate.specs.declared.requests.SharedArguments.TheVariants.{Name, Share, Give, Get}
 use Rattle.o2_stands.specs.Knows.{KnowsAs, known_in, others_of}
 use Rattle.o2_stands.specs.Parts.{Parts}
 use Rattle.o2_stands.specs.Stands.{Matches}
@@ -52,19 +53,19 @@ module _ (m : Maps) (k l : Known) (same : KnowsAs m k l) where
       ap (λ (z : Known). naming z n size (Some name)) (but_taken m k l same)
       ∙ ap (λ (r : Ruling). cond (is_some (l.text name)) (refusal 183) (cond (nat_le l.most l.count) (refusal 8) r)) (at_index n size name (free_index x 0) ∙ ap (naming_at l n size name) same_free)
 
-  pub same_shared : (a : SharedArguments) (n : ℕ) → shared_ruling a k n ≡ shared_ruling a l n
-  same_shared (Name size t s o) n = same_naming n size _
-  same_shared (Share t s o) n = ap (λ (z : Known). shared_ruling (Share t s o) z n) (but_taken m k l same)
-  same_shared (Give selector to s o) n = ap (λ (z : Known). shared_ruling (Give selector to s o) z n) (but_taken m k l same)
-  same_shared (Get selector) n = ap (λ (z : Known). shared_ruling (Get selector) z n) (but_taken m k l same)
+  pub same_shared : (a : SharedArguments) (n : ℕ) (c : Cpu) → shared_ruling a k n c ≡ shared_ruling a l n c
+  same_shared (Name size t) n c = same_naming n size _
+  same_shared (Share t) n c = ap (λ (z : Known). shared_ruling (Share t) z n c) (but_taken m k l same)
+  same_shared (Give selector to) n c = ap (λ (z : Known). shared_ruling (Give selector to) z n c) (but_taken m k l same)
+  same_shared (Get selector) n c = ap (λ (z : Known). shared_ruling (Get selector) z n c) (but_taken m k l same)
 
 -- The row of the ruling over the machine is that of the ruling over the world.
 module _ (sh : Shelf) (m : Maps) (images : ImageList) (block : ℕ → List ℕ) (p : Parts) (s : Setting) (w : World) (over : IsOver sh m images block p s w) (pid : ℕ) where
   pub shared_row : {a b : SharedArguments} {r : Ruling} {t : Shelf} {n : Maps} {names : List (Option NameThere)} {x : Answer}
-      → a ≡ b → r ≡ shared_ruling b (known_in p (others_of s w)) pid → IsSharedRow r p w pid t n names x → IsSharedRow (shared_ruling a (known_of s w) pid) p w pid t n names x
-  shared_row {b} {t} {n} {names} {x} is same row =
-      let known = same_shared p.maps (known_of s w) (known_in p (others_of s w)) (known_is p s w over.lawful over.set over.stands) b pid in
-      subst (λ (z : SharedArguments). IsSharedRow (shared_ruling z (known_of s w) pid) p w pid t n names x) (sym is)
+      → (c : Cpu) → a ≡ b → r ≡ shared_ruling b (known_in p (others_of s w)) pid c → IsSharedRow r p w pid t n names x → IsSharedRow (shared_ruling a (known_of s w) pid c) p w pid t n names x
+  shared_row {b} {t} {n} {names} {x} c is same row =
+      let known = same_shared p.maps (known_of s w) (known_in p (others_of s w)) (known_is p s w over.lawful over.set over.stands) b pid c in
+      subst (λ (z : SharedArguments). IsSharedRow (shared_ruling z (known_of s w) pid c) p w pid t n names x) (sym is)
       (subst (λ (q : Ruling). IsSharedRow q p w pid t n names x) (same ∙ sym known) row)
 
   pub matches_now : Matches p w

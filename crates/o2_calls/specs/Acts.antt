@@ -9,35 +9,23 @@ use Rattle.o2_regions.specs.declared.answer.Roomed.{Roomed}
 use Rattle.o2_regions.specs.declared.answer.Roomed.TheVariants.{Done, NoRoom, SwapFull, SwapFault}
 use Rattle.o2_world.specs.World.{Setting, World}
 use Rattle.o2_world.specs.Known.{Known}
-use Rattle.o2_world.specs.Rulings.{Ruling, aliasing, allocation, freeing, freeing_cpu, locking, reallocation, sizing, unlocking}
-use Rattle.o2_gate.specs.declared.gathering.SegmentArguments.{SegmentArguments}
-use Rattle.o2_gate.specs.declared.gathering.SegmentArguments.TheVariants.{Alloc, Realloc, Free, Size, Lock, Unlock, Alias, Shared, Huge}
+use Rattle.o2_world.specs.Rulings.{freeing_cpu}
+use Rattle.o2_gate.specs.declared.requests.SegmentArguments.{SegmentArguments}
+use Rattle.o2_gate.specs.declared.requests.SegmentArguments.TheVariants.{Alloc, Realloc, Free, Size, Lock, Unlock, Alias, Shared, Huge}
 use Rattle.o2_stands.specs.Parts.{Parts}
-use Rattle.o2_calls.specs.HugeActs.{MaySize, huge_cpu, huge_ruling}
-use Rattle.o2_calls.specs.SharedActs.{shared_ruling}
+pub use Rattle.o2_gate.specs.Requests.{ruling_of}
+use Rattle.o2_calls.specs.HugeActs.{MaySize, huge_cpu}
 use Rattle.o2_stands.specs.Stands.{AreLawful, IsSetTo, Stands}
-
--- error, value and changes of the call by a process with these registers
-abbrev pub ruling_of : SegmentArguments → Known → (number : ℕ) → Cpu → Ruling
-ruling_of (Alloc size s o flags) k n c = allocation k n size flags
-ruling_of (Realloc size selector) k n c = reallocation k n size selector
-ruling_of (Free selector) k n c = freeing k n selector c
-ruling_of (Size selector s o) k n c = sizing k n selector
-ruling_of (Lock selector) k n c = locking k n selector
-ruling_of (Unlock selector) k n c = unlocking k n selector
-ruling_of (Alias selector s o) k n c = aliasing k n selector
-ruling_of (Shared a) k n c = shared_ruling a k n
-ruling_of (Huge a) k n c = huge_ruling a k n c
 
 -- the registers behind it, as far as the call itself changes them: what frees, or cuts a run, clears DS and ES
 abbrev pub cpu_of : SegmentArguments → Known → (number : ℕ) → Cpu → Cpu
-cpu_of (Alloc size s o flags) k n c = c
+cpu_of (Alloc size flags) k n c = c
 cpu_of (Realloc size selector) k n c = c
 cpu_of (Free selector) k n c = freeing_cpu k n selector c
-cpu_of (Size selector s o) k n c = c
+cpu_of (Size selector) k n c = c
 cpu_of (Lock selector) k n c = c
 cpu_of (Unlock selector) k n c = c
-cpu_of (Alias selector s o) k n c = c
+cpu_of (Alias selector) k n c = c
 cpu_of (Shared a) k n c = c
 cpu_of (Huge a) k n c = huge_cpu a k n c
 
@@ -57,13 +45,13 @@ most_made SwapFault = 0
 
 -- only a call that sizes or locks may stop
 abbrev pub MayStop : SegmentArguments → Type 0
-MayStop (Alloc size s o flags) = has_bit flags 2 ≡ true
+MayStop (Alloc size flags) = has_bit flags 2 ≡ true
 MayStop (Realloc size selector) = Unit {0}
 MayStop (Free selector) = ⊥
-MayStop (Size selector s o) = ⊥
+MayStop (Size selector) = ⊥
 MayStop (Lock selector) = Unit {0}
 MayStop (Unlock selector) = ⊥
-MayStop (Alias selector s o) = ⊥
+MayStop (Alias selector) = ⊥
 MayStop (Shared a) = ⊥
 MayStop (Huge a) = MaySize a
 

@@ -15,7 +15,7 @@ use Rattle.o2_stands.specs.Moves.{moved}
 use Rattle.o2_stands.specs.Parts.{Parts}
 use Rattle.o2_stands.specs.Stands.{Matches}
 use Rattle.o2_segs.specs.Answers.{AnswersRoomed, changes_roomed}
-use Rattle.o2_gate.specs.declared.gathering.SegmentArguments.{SegmentArguments}
+use Rattle.o2_gate.specs.declared.requests.SegmentArguments.{SegmentArguments}
 use Rattle.o2_shared.specs.declared.names.Name.{Name}
 use Rattle.o2_calls.specs.Acts.{cpu_behind, ruling_of}
 use Rattle.o2_calls.specs.SharedActs.{LeavesSpelled}

@@ -10,14 +10,14 @@ use Rattle.o2_world.specs.Changes.{Change, moved_lines}
 use Rattle.o2_world.specs.HugeRulings.{segments_of}
 use Rattle.o2_world.specs.Rulings.{indexes}
 use Rattle.o2_world.specs.SharedRulings.{shared_from}
-use Rattle.o2_gate.specs.declared.gathering.SegmentArguments.{SegmentArguments}
-use Rattle.o2_gate.specs.declared.gathering.SegmentArguments.TheVariants.{Alloc, Realloc, Free, Size, Lock, Unlock, Alias, Shared, Huge}
-use Rattle.o2_gate.specs.declared.huge.HugeArguments.{HugeArguments}
-use Rattle.o2_gate.specs.declared.huge.HugeArguments.TheVariants as huge
+use Rattle.o2_gate.specs.declared.requests.SegmentArguments.{SegmentArguments}
+use Rattle.o2_gate.specs.declared.requests.SegmentArguments.TheVariants.{Alloc, Realloc, Free, Size, Lock, Unlock, Alias, Shared, Huge}
+use Rattle.o2_gate.specs.declared.requests.HugeArguments.{HugeArguments}
+use Rattle.o2_gate.specs.declared.requests.HugeArguments.TheVariants as huge
 use Rattle.o2_gate.specs.declared.moves.Block.{Block}
 use Rattle.o2_gate.specs.MovedLines.{AreInside, all_lines}
-use Rattle.o2_gate.specs.declared.sharing.SharedArguments.{SharedArguments}
-use Rattle.o2_gate.specs.declared.sharing.SharedArguments.TheVariants as shared
+use Rattle.o2_gate.specs.declared.requests.SharedArguments.{SharedArguments}
+use Rattle.o2_gate.specs.declared.requests.SharedArguments.TheVariants as shared
 use Rattle.o2_huge.specs.Growth.{is_of_run}
 use Rattle.o2_huge.specs.Resized.{is_member_in}
 use Rattle.o2_calls.specs.declared.noting.Counted.{Counted}
@@ -40,20 +40,20 @@ counted_under m pid s = counted_there m pid (s / 8) (if is_local s then held_at 
 
 -- of a call that frees, gives, or sizes a run
 abbrev pub counted_by : SegmentArguments → Maps → (pid : ℕ) → Counted
-counted_by (Alloc size s o flags) m pid = record { members = 0; holds = 0 }
+counted_by (Alloc size flags) m pid = record { members = 0; holds = 0 }
 counted_by (Realloc size selector) m pid = record { members = 0; holds = 0 }
 counted_by (Free selector) m pid = counted_under m pid selector
-counted_by (Size selector s o) m pid = record { members = 0; holds = 0 }
+counted_by (Size selector) m pid = record { members = 0; holds = 0 }
 counted_by (Lock selector) m pid = record { members = 0; holds = 0 }
 counted_by (Unlock selector) m pid = record { members = 0; holds = 0 }
-counted_by (Alias selector s o) m pid = record { members = 0; holds = 0 }
-counted_by (Shared (shared.Name size t s o)) m pid = record { members = 0; holds = 0 }
-counted_by (Shared (shared.Share t s o)) m pid = record { members = 0; holds = 0 }
-counted_by (Shared (shared.Give selector to s o)) m pid = counted_under m pid selector
+counted_by (Alias selector) m pid = record { members = 0; holds = 0 }
+counted_by (Shared (shared.Name size t)) m pid = record { members = 0; holds = 0 }
+counted_by (Shared (shared.Share t)) m pid = record { members = 0; holds = 0 }
+counted_by (Shared (shared.Give selector to)) m pid = counted_under m pid selector
 counted_by (Shared (shared.Get selector)) m pid = record { members = 0; holds = 0 }
-counted_by (Huge (huge.Alloc segs part s o most flags)) m pid = record { members = 0; holds = 0 }
+counted_by (Huge (huge.Alloc segs part most flags)) m pid = record { members = 0; holds = 0 }
 counted_by (Huge (huge.Realloc segs part selector)) m pid = counted_under m pid selector
-counted_by (Huge (huge.Shift s o)) m pid = record { members = 0; holds = 0 }
+counted_by (Huge huge.Shift) m pid = record { members = 0; holds = 0 }
 
 abbrev pub came : (process index count holds : ℕ) → Block
 came p i n h = record { process = p; index = i; count = n; holds = h; came = true }
@@ -81,25 +81,25 @@ sized_blocks m pid first c wanted =
     else (if nat_lt wanted c.members then went pid (first + wanted) (c.members - wanted) c.holds ∷ [] else [])
 
 abbrev pub shared_blocks : SharedArguments → (pid : ℕ) → Counted → Maps → (value : ℕ) → List Block
-shared_blocks (shared.Name size t s o) pid c n value = came pid (value / 8) 1 1 ∷ []
-shared_blocks (shared.Share t s o) pid c n value = came pid (value / 8) 1 1 ∷ []
-shared_blocks (shared.Give selector to s o) pid c n value = came to (selector / 8) c.members 1 ∷ []
+shared_blocks (shared.Name size t) pid c n value = came pid (value / 8) 1 1 ∷ []
+shared_blocks (shared.Share t) pid c n value = came pid (value / 8) 1 1 ∷ []
+shared_blocks (shared.Give selector to) pid c n value = came to (selector / 8) c.members 1 ∷ []
 shared_blocks (shared.Get selector) pid c n value = came pid (selector / 8) (counted_under n pid selector).members 1 ∷ []
 
 abbrev pub huge_blocks : HugeArguments → (pid : ℕ) → Counted → Maps → (value : ℕ) → List Block
-huge_blocks (huge.Alloc segs part s o most flags) pid c n value = came pid (value / 8) (segments_of segs part) 1 ∷ []
+huge_blocks (huge.Alloc segs part most flags) pid c n value = came pid (value / 8) (segments_of segs part) 1 ∷ []
 huge_blocks (huge.Realloc segs part selector) pid c n value = sized_blocks n pid (selector / 8) c (segments_of segs part)
-huge_blocks (huge.Shift s o) pid c n value = []
+huge_blocks huge.Shift pid c n value = []
 
 -- what a call that came to no error did, by what was counted before it and what is held behind it
 abbrev pub blocks_of : SegmentArguments → (pid : ℕ) → Counted → Maps → (value : ℕ) → List Block
-blocks_of (Alloc size s o flags) pid c n value = came pid (value / 8) 1 1 ∷ []
+blocks_of (Alloc size flags) pid c n value = came pid (value / 8) 1 1 ∷ []
 blocks_of (Realloc size selector) pid c n value = []
 blocks_of (Free selector) pid c n value = went pid (selector / 8) c.members 1 ∷ []
-blocks_of (Size selector s o) pid c n value = []
+blocks_of (Size selector) pid c n value = []
 blocks_of (Lock selector) pid c n value = []
 blocks_of (Unlock selector) pid c n value = []
-blocks_of (Alias selector s o) pid c n value = came pid (value / 8) 1 1 ∷ []
+blocks_of (Alias selector) pid c n value = came pid (value / 8) 1 1 ∷ []
 blocks_of (Shared a) pid c n value = shared_blocks a pid c n value
 blocks_of (Huge a) pid c n value = huge_blocks a pid c n value
 

@@ -14,8 +14,8 @@ use Rattle.o2_stands.specs.Moves.{moved}
 use Rattle.o2_stands.specs.Parts.{Parts}
 use Rattle.o2_stands.specs.Stands.{Matches}
 use Rattle.o2_segs.specs.Answers.{AnswersRoomed, changes_roomed}
-use Rattle.o2_gate.specs.declared.gathering.SegmentArguments.TheVariants.{Huge}
-use Rattle.o2_gate.specs.declared.huge.HugeArguments.{HugeArguments}
+use Rattle.o2_gate.specs.declared.requests.SegmentArguments.TheVariants.{Huge}
+use Rattle.o2_gate.specs.declared.requests.HugeArguments.{HugeArguments}
 use Rattle.o2_calls.specs.HugeActs.{huge_behind, huge_ruling}
 use Rattle.o2_calls.specs.Stops.{LacksRun, LacksRunMemory, LeavesRunHolds}
 

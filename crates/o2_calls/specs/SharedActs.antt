@@ -7,26 +7,21 @@ use Rattle.o2_world.specs.Changes.{with_all}
 use Rattle.o2_world.specs.Holders.{process_at}
 use Rattle.o2_world.specs.Known.{Known, text_name}
 use Rattle.o2_world.specs.Rulings.{Ruling}
-use Rattle.o2_world.specs.SharedNames.{name_by}
-use Rattle.o2_world.specs.SharedRulings.{getting, giving, naming, sharing}
 use Rattle.o2_world.specs.World.{Process, World}
-use Rattle.o2_gate.specs.declared.gathering.SegmentArguments.{SegmentArguments}
-use Rattle.o2_gate.specs.declared.gathering.SegmentArguments.TheVariants.{Alloc, Realloc, Free, Size, Lock, Unlock, Alias, Shared, Huge}
-use Rattle.o2_gate.specs.declared.sharing.SharedArguments.{SharedArguments}
-use Rattle.o2_gate.specs.declared.sharing.SharedArguments.TheVariants.{Name, Share, Give, Get}
-use Rattle.o2_gate.specs.SharedReplies.{text_of}
+use Rattle.o2_gate.specs.declared.requests.SegmentArguments.{SegmentArguments}
+use Rattle.o2_gate.specs.declared.requests.SegmentArguments.TheVariants.{Alloc, Realloc, Free, Size, Lock, Unlock, Alias, Shared, Huge}
+use Rattle.o2_gate.specs.declared.requests.SharedArguments.{SharedArguments}
+use Rattle.o2_gate.specs.Requests.{ruling_of}
+use Rattle.o2_isa.specs.declared.cpu.Cpu.{Cpu}
 use Rattle.o2_stands.specs.Parts.{Parts}
 use Rattle.o2_stands.specs.Stands.{AreMarked, Matches}
 use Rattle.o2_segs.specs.Answers.{Answers}
 use Rattle.o2_shared.specs.declared.names.Name.{Name as NameThere}
 use Rattle.o2_shared.specs.Texts.{AreOnce, AreTexts}
 
--- error, value and changes of the call by a process
-abbrev pub shared_ruling : SharedArguments → Known → (number : ℕ) → Ruling
-shared_ruling (Name size t s o) k n = naming k n size (name_by (text_of t))
-shared_ruling (Share t s o) k n = sharing k n (name_by (text_of t))
-shared_ruling (Give selector pid s o) k n = giving k n selector pid
-shared_ruling (Get selector) k n = getting k n selector
+-- error, value and changes of the call by a process with these registers
+abbrev pub shared_ruling : SharedArguments → Known → (number : ℕ) → Cpu → Ruling
+shared_ruling a = ruling_of (Shared a)
 
 -- The names that are kept are those of the world's texts, of which none stands twice; the tables are those of all its processes; and
 -- those that live are marked so.
@@ -50,12 +45,12 @@ pub record IsSharedRow (q : Ruling) (p : Parts) (w : World) (pid : ℕ) (t : She
 
 -- what a call leaves of the names that are kept: all of them, but for one by which processes share segments
 abbrev pub LeavesSpelled : SegmentArguments → Shelf → (old new : List (Option NameThere)) → World → Type 0
-LeavesSpelled (Alloc size s o flags) t old new w = new ≡ old
+LeavesSpelled (Alloc size flags) t old new w = new ≡ old
 LeavesSpelled (Realloc size selector) t old new w = new ≡ old
 LeavesSpelled (Free selector) t old new w = new ≡ old
-LeavesSpelled (Size selector s o) t old new w = new ≡ old
+LeavesSpelled (Size selector) t old new w = new ≡ old
 LeavesSpelled (Lock selector) t old new w = new ≡ old
 LeavesSpelled (Unlock selector) t old new w = new ≡ old
-LeavesSpelled (Alias selector s o) t old new w = new ≡ old
+LeavesSpelled (Alias selector) t old new w = new ≡ old
 LeavesSpelled (Shared a) t old new w = AreSpelled t new w
 LeavesSpelled (Huge a) t old new w = new ≡ old

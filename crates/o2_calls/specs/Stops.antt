@@ -13,10 +13,10 @@ use Rattle.o2_store.specs.Shelf.{Shelf}
 use Rattle.o2_store.specs.Sizes.{all_wanted_at, stays}
 use Rattle.o2_swapmap.specs.Piles.{all_of}
 use Rattle.o2_world.specs.Rulings.{full_size}
-use Rattle.o2_gate.specs.declared.gathering.SegmentArguments.{SegmentArguments}
-use Rattle.o2_gate.specs.declared.gathering.SegmentArguments.TheVariants.{Alloc, Realloc, Free, Size, Lock, Unlock, Alias, Shared, Huge}
-use Rattle.o2_gate.specs.declared.huge.HugeArguments.{HugeArguments}
-use Rattle.o2_gate.specs.declared.huge.HugeArguments.TheVariants as huge
+use Rattle.o2_gate.specs.declared.requests.SegmentArguments.{SegmentArguments}
+use Rattle.o2_gate.specs.declared.requests.SegmentArguments.TheVariants.{Alloc, Realloc, Free, Size, Lock, Unlock, Alias, Shared, Huge}
+use Rattle.o2_gate.specs.declared.requests.HugeArguments.{HugeArguments}
+use Rattle.o2_gate.specs.declared.requests.HugeArguments.TheVariants as huge
 use Rattle.o2_isa.specs.declared.cpu.Cpu.{Cpu}
 use Rattle.o2_world.specs.Changes.{takes}
 use Rattle.o2_world.specs.HugeRulings.{huge_reallocation}
@@ -35,26 +35,26 @@ held_by m pid selector = if is_local selector then held_at m pid (selector / 8) 
 
 -- the segment at its new size, or the new one, together with what is to be kept and what is locked is more than the memory
 abbrev pub LacksRoom : SegmentArguments → Shelf → Maps → (pid : ℕ) → (keep : List SegId) → Type 0
-LacksRoom (Alloc size s o flags) t m pid keep = IsWithNew t (full_size size) flags (λ u id. u.places.size < all_wanted u id.key keep)
+LacksRoom (Alloc size flags) t m pid keep = IsWithNew t (full_size size) flags (λ u id. u.places.size < all_wanted u id.key keep)
 LacksRoom (Realloc size selector) t m pid keep =
     IfSome (held_by m pid selector) (λ h. (stays t h.id.key keep ≡ true) × (t.places.size < all_wanted_at t h.id.key keep (full_size size)))
 LacksRoom (Free selector) t m pid keep = ⊥
-LacksRoom (Size selector s o) t m pid keep = ⊥
+LacksRoom (Size selector) t m pid keep = ⊥
 LacksRoom (Lock selector) t m pid keep = IfSome (held_by m pid selector) (λ h. t.places.size < all_wanted t h.id.key keep)
 LacksRoom (Unlock selector) t m pid keep = ⊥
-LacksRoom (Alias selector s o) t m pid keep = ⊥
+LacksRoom (Alias selector) t m pid keep = ⊥
 LacksRoom (Shared a) t m pid keep = ⊥
 LacksRoom (Huge a) t m pid keep = Unit {0}
 
 -- what lives, with the new segment or the new size, is more than the memory
 abbrev pub LacksMemory : SegmentArguments → Shelf → Maps → (pid : ℕ) → Type 0
-LacksMemory (Alloc size s o flags) t m pid = IsWithNew t (full_size size) flags (λ u id. u.places.size < live_load u)
+LacksMemory (Alloc size flags) t m pid = IsWithNew t (full_size size) flags (λ u id. u.places.size < live_load u)
 LacksMemory (Realloc size selector) t m pid = IfSome (held_by m pid selector) (λ h. t.places.size < live_load_at t h.id.key (full_size size))
 LacksMemory (Free selector) t m pid = ⊥
-LacksMemory (Size selector s o) t m pid = ⊥
+LacksMemory (Size selector) t m pid = ⊥
 LacksMemory (Lock selector) t m pid = t.places.size < live_load t
 LacksMemory (Unlock selector) t m pid = ⊥
-LacksMemory (Alias selector s o) t m pid = ⊥
+LacksMemory (Alias selector) t m pid = ⊥
 LacksMemory (Shared a) t m pid = ⊥
 LacksMemory (Huge a) t m pid = Unit {0}
 
@@ -93,36 +93,36 @@ LeavesRunHolds a m n k pid c = Unit {0}
 
 -- a call that cuts a run may take holds
 abbrev pub LeavesRun : HugeArguments → (old new : Maps) → Type 0
-LeavesRun (huge.Alloc segs part s o most flags) m n = KeepsHolds m n
+LeavesRun (huge.Alloc segs part most flags) m n = KeepsHolds m n
 LeavesRun (huge.Realloc segs part selector) m n = Unit {0}
-LeavesRun (huge.Shift s o) m n = KeepsHolds m n
+LeavesRun huge.Shift m n = KeepsHolds m n
 
 abbrev pub LeavesRunEntries : HugeArguments → (s t : Shelf) → Type 0
-LeavesRunEntries (huge.Alloc segs part s o most flags) m n = KeepsEntries m n
+LeavesRunEntries (huge.Alloc segs part most flags) m n = KeepsEntries m n
 LeavesRunEntries (huge.Realloc segs part selector) m n = Unit {0}
-LeavesRunEntries (huge.Shift s o) m n = KeepsEntries m n
+LeavesRunEntries huge.Shift m n = KeepsEntries m n
 
 -- what a call leaves of what is held: all of it, but for one that frees; one that shares may hold it once more
 abbrev pub LeavesHolds : SegmentArguments → (old new : Maps) → Type 0
-LeavesHolds (Alloc size s o flags) m n = KeepsHolds m n
+LeavesHolds (Alloc size flags) m n = KeepsHolds m n
 LeavesHolds (Realloc size selector) m n = KeepsHolds m n
 LeavesHolds (Free selector) m n = Unit {0}
-LeavesHolds (Size selector s o) m n = KeepsHolds m n
+LeavesHolds (Size selector) m n = KeepsHolds m n
 LeavesHolds (Lock selector) m n = KeepsHolds m n
 LeavesHolds (Unlock selector) m n = KeepsHolds m n
-LeavesHolds (Alias selector s o) m n = KeepsHolds m n
+LeavesHolds (Alias selector) m n = KeepsHolds m n
 LeavesHolds (Shared a) m n = StillHolds m n
 LeavesHolds (Huge a) m n = LeavesRun a m n
 
 -- what a call that has a pointer leaves of what lives: all of it, with its size
 abbrev pub LeavesEntries : SegmentArguments → (s t : Shelf) → Type 0
-LeavesEntries (Alloc size s o flags) m n = KeepsEntries m n
+LeavesEntries (Alloc size flags) m n = KeepsEntries m n
 LeavesEntries (Realloc size selector) m n = Unit {0}
 LeavesEntries (Free selector) m n = Unit {0}
-LeavesEntries (Size selector s o) m n = KeepsEntries m n
+LeavesEntries (Size selector) m n = KeepsEntries m n
 LeavesEntries (Lock selector) m n = Unit {0}
 LeavesEntries (Unlock selector) m n = Unit {0}
-LeavesEntries (Alias selector s o) m n = KeepsEntries m n
+LeavesEntries (Alias selector) m n = KeepsEntries m n
 LeavesEntries (Shared a) m n = KeepsEntries m n
 LeavesEntries (Huge a) m n = LeavesRunEntries a m n
 
@@ -134,17 +134,17 @@ HasWord SwapFull = Unit {0}
 HasWord SwapFault = Unit {0}
 
 abbrev pub IsRunGivable : HugeArguments → Roomed → Type 0
-IsRunGivable (huge.Alloc segs part s o most flags) x = HasWord x
+IsRunGivable (huge.Alloc segs part most flags) x = HasWord x
 IsRunGivable (huge.Realloc segs part selector) x = Unit {0}
-IsRunGivable (huge.Shift s o) x = HasWord x
+IsRunGivable huge.Shift x = HasWord x
 
 abbrev pub IsGivable : SegmentArguments → Roomed → Type 0
-IsGivable (Alloc size s o flags) x = HasWord x
+IsGivable (Alloc size flags) x = HasWord x
 IsGivable (Realloc size selector) x = Unit {0}
 IsGivable (Free selector) x = Unit {0}
-IsGivable (Size selector s o) x = Unit {0}
+IsGivable (Size selector) x = Unit {0}
 IsGivable (Lock selector) x = Unit {0}
 IsGivable (Unlock selector) x = Unit {0}
-IsGivable (Alias selector s o) x = HasWord x
+IsGivable (Alias selector) x = HasWord x
 IsGivable (Shared a) x = HasWord x
 IsGivable (Huge a) x = IsRunGivable a x

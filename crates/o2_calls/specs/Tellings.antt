@@ -5,12 +5,13 @@ use Rattle.o2_world.specs.declared.types.State.TheVariants.{Live}
 use Rattle.o2_world.specs.Calls.{Before, Effect, returned}
 use Rattle.o2_world.specs.Changes.{moved_lines}
 use Rattle.o2_world.specs.Rulings.{Ruling}
-use Rattle.o2_gate.specs.declared.gathering.SegmentArguments.{SegmentArguments}
-use Rattle.o2_gate.specs.Replies.{bytes_of, call_line, name_of, words_of}
+use Rattle.o2_gate.specs.declared.arguments.Arguments.{Arguments}
+use Rattle.o2_gate.specs.Replies.{bytes_of, call_line, words_of}
+use Rattle.o2_gate.specs.Targets.{name_of}
 use Rattle.o2_calls.specs.Acts.{cpu_of, ruling_of}
 
 -- what a call comes to by its ruling and its registers: the value behind its pointer, its line, and those of what it changes
-abbrev pub replied : SegmentArguments → Before → (next : ℕ) → Ruling → Cpu → Effect
+abbrev pub replied : Arguments → Before → (next : ℕ) → Ruling → Cpu → Effect
 replied a b next r c = record {
   cpu = returned c next (words_of a) r.error;
   state = Live;
@@ -22,5 +23,5 @@ replied a b next r c = record {
 }
 
 -- the call with these arguments, whose pointer is good
-abbrev pub replied_by : SegmentArguments → Before → (next : ℕ) → Effect
-replied_by a b next = replied a b next (ruling_of a b.known b.number b.cpu) (cpu_of a b.known b.number b.cpu)
+abbrev pub replied_by : Arguments → Before → (next : ℕ) → Effect
+replied_by a b next = replied a b next (ruling_of a.request b.known b.number b.cpu) (cpu_of a.request b.known b.number b.cpu)

@@ -91,34 +91,25 @@ pub fn act<S: SwapDevice>(
         ⊎ IsShort arguments store.old regions.old pid result }
 {
     match arguments {
-        SegmentArguments::Alloc {
-            size,
-            to_selector: _,
-            to_offset: _,
-            flags,
-        } => alloc_seg(store, regions, pid, size, flags, keep, images, swap),
+        SegmentArguments::Alloc { size, flags } => alloc_seg(
+            store, regions, pid, size, flags, keep, images, swap,
+        ),
         SegmentArguments::Realloc { size, selector } => realloc_seg(
             store, regions, pid, size, selector, keep, images, swap,
         ),
         SegmentArguments::Free(selector) => {
             Roomed::Done(free_seg(store, regions, pid, selector, cpu))
         }
-        SegmentArguments::Size {
-            selector,
-            to_selector: _,
-            to_offset: _,
-        } => Roomed::Done(size_seg(store, regions, pid, selector)),
+        SegmentArguments::Size(selector) => Roomed::Done(size_seg(store, regions, pid, selector)),
         SegmentArguments::Lock(selector) => {
             lock_seg(store, regions, pid, selector, keep, images, swap)
         }
         SegmentArguments::Unlock(selector) => {
             Roomed::Done(unlock_seg(store, regions, pid, selector))
         }
-        SegmentArguments::Alias {
-            selector,
-            to_selector: _,
-            to_offset: _,
-        } => Roomed::Done(create_cs_alias(store, regions, pid, selector)),
+        SegmentArguments::Alias(selector) => Roomed::Done(create_cs_alias(
+            store, regions, pid, selector,
+        )),
         SegmentArguments::Shared(shared) => {
             Roomed::Done(share(&shared, pid, store, regions, names, ends))
         }

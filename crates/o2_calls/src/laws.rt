@@ -1,9 +1,9 @@
 // What the rows of the calls on segments come to by their rulings.
 ghost use Rattle.std.specs.Prelude.{◌≡◌, ℕ, List, ◌++◌, ◌∷◌, [], Some, length};
 ghost use Rattle.o2_conf.specs.Dispatch.{Dispatch};
-ghost use Rattle.o2_gate.specs.declared.gathering.SegmentArguments.{SegmentArguments as ArgumentsThere};
-ghost use Rattle.o2_gate.specs.Gathers.{asked};
-ghost use Rattle.o2_gate.specs.Replies.{name_of};
+ghost use Rattle.o2_gate.specs.declared.requests.SegmentArguments.{SegmentArguments as ArgumentsThere};
+ghost use Rattle.o2_gate.specs.declared.arguments.Arguments.{Arguments as AllArguments};
+ghost use Rattle.o2_gate.specs.Targets.{asked};
 ghost use Rattle.o2_isa.specs.declared.cpu.Cpu.{Cpu as CpuThere};
 ghost use Rattle.o2_regions.specs.declared.answer.Answer.{Answer as AnswerThere};
 ghost use Rattle.o2_regions.specs.declared.answer.Roomed.TheVariants.{Done};
@@ -32,15 +32,15 @@ ghost use Rattle.o2_calls.specs.Tellings.{replied_by};
 /// registers and its line are those of `give_value`, `come_back` and `put_reply` of `o2_gate`, its changes are the ruling's, and the
 /// lines behind its own are those of its changes.
 pub fn calls_come_back_by_their_rulings()
-    ensures { (a : ArgumentsThere) (b : Before) (next : ℕ) → asked a b next ≡ replied_by a b next }
+    ensures { (a : AllArguments) (b : Before) (next : ℕ) → asked a b next ≡ replied_by a b next }
 {}
 
 /// A call whose changes are made, and whose value is then written behind its pointer, is seen: a machine that matches the world with
 /// the changes matches the world behind the call, once the bytes and the registers of its process are those of the call.
 pub fn what_a_call_gives_is_seen()
-    ensures { (s : Setting) (w : World) (d : Dispatch) (x : Process) (a : ArgumentsThere) (next : ℕ)
+    ensures { (s : Setting) (w : World) (d : Dispatch) (x : Process) (a : AllArguments) (next : ℕ)
         (q : Parts) (t : Shelf) (m : Maps) → process_at w.processes d.current ≡ Some x
-        → let b = before s w d.current x in let r = ruling_of a b.known d.current x.cpu in
+        → let b = before s w d.current x in let r = ruling_of a.request b.known d.current x.cpu in
         Matches q (with_all w r.changes)
         → Gives w (with_all w r.changes) d.current x a r q t → KeepsStore q.shelf t → KeepsMaps q.maps m → AreInside t
         → IsReady (stepped_to q t m)
@@ -52,12 +52,12 @@ pub fn what_a_call_gives_is_seen()
 /// What is noted of a call, by what was counted before it and what is held behind it, has the lines of what the call changes, at
 /// indexes of a table.
 pub fn what_is_noted_is_told()
-    ensures { (p q : Parts) (s : Setting) (w : World) (x : Process) (a : ArgumentsThere) (number : ℕ) (c : CpuThere) (answer : AnswerThere)
+    ensures { (p q : Parts) (s : Setting) (w : World) (x : Process) (cause : List ℕ) (a : ArgumentsThere) (number : ℕ) (c : CpuThere) (answer : AnswerThere)
         → AreLawful p.shelf p.maps → IsSetTo p s → Stands p w → IsProcess p.maps number
         → length w.processes ≡ p.maps.processes → q.maps.processes ≡ p.maps.processes
         → process_at w.processes number ≡ Some x → let r = ruling_of a (known_of s w) number c in
         Matches q (with_all w r.changes) → Answers r answer
-        → AreTold (name_of a) (noted a number (counted_by a p.maps number) q.maps (Done answer)) r.changes }
+        → AreTold cause (noted a number (counted_by a p.maps number) q.maps (Done answer)) r.changes }
 {}
 
 /// Where a process ends in the step of a call, as by exception 1 behind it, the world is that behind the call and then its end: what

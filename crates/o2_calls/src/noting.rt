@@ -253,7 +253,7 @@ fn note_shared(
 {
     match arguments {
         SharedArguments::Name { .. } => note_new(moves, pid, value, 1),
-        SharedArguments::Share { .. } => note_new(moves, pid, value, 1),
+        SharedArguments::Share(_) => note_new(moves, pid, value, 1),
         SharedArguments::Give { selector, to, .. } => {
             let index = Selector(*selector).index();
             note_block(moves, came(*to, index, counted.members, 1));
@@ -290,7 +290,7 @@ fn note_huge(
             let wanted = segments_of(*segs, *part);
             note_sized(moves, regions, pid, first, counted, wanted);
         }
-        HugeArguments::Shift { .. } => {}
+        HugeArguments::Shift => {}
     }
 }
 
@@ -309,7 +309,7 @@ fn note_done(
 {
     match arguments {
         SegmentArguments::Alloc { .. } => note_new(moves, pid, value, 1),
-        SegmentArguments::Alias { .. } => note_new(moves, pid, value, 1),
+        SegmentArguments::Alias(_) => note_new(moves, pid, value, 1),
         SegmentArguments::Free(selector) => {
             let index = Selector(selector).index();
             note_block(moves, went(pid, index, counted.members, 1));
@@ -319,7 +319,7 @@ fn note_done(
         }
         SegmentArguments::Huge(huge) => note_huge(moves, &huge, pid, counted, regions, value),
         SegmentArguments::Realloc { .. } => {}
-        SegmentArguments::Size { .. } => {}
+        SegmentArguments::Size(_) => {}
         SegmentArguments::Lock(_) => {}
         SegmentArguments::Unlock(_) => {}
     }

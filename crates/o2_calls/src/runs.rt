@@ -81,6 +81,6 @@ pub fn act_on_run<S: SwapDevice>(
         } => realloc_huge(
             store, regions, pid, *segs, *part, *selector, cpu, keep, images, swap,
         ),
-        HugeArguments::Shift { .. } => Roomed::Done(huge_shift(store, regions, pid)),
+        HugeArguments::Shift => Roomed::Done(huge_shift(store, regions, pid)),
     }
 }

@@ -13,6 +13,7 @@ ghost use Rattle.o2_segs.specs.Limits.{KeepsEntries, KeepsLimitsBy};
 ghost use Rattle.o2_shared.specs.Shares.{AreFew, ShareOne, StillHolds};
 ghost use Rattle.o2_shared.specs.Texts.{AreInPlace};
 ghost use Rattle.o2_calls.specs.Acts.{IsOver};
+ghost use Rattle.o2_isa.specs.declared.cpu.Cpu.{Cpu as CpuThere};
 ghost use Rattle.o2_calls.specs.SharedActs.{IsSharedRow, Spells, shared_ruling};
 
 use o2_gate::SharedArguments;
@@ -41,7 +42,7 @@ pub fn share(
     // The row of the call in the world for which the machine stands.
     ensures row { (images : ImageList) (block : ℕ → List ℕ) (p : Parts) (s : Setting) (w : World)
         → IsOver store.old regions.old images block p s w → Spells store.old regions.old names.old ends.now p w
-        → IsSharedRow (shared_ruling arguments.now (known_of s w) pid) p w pid store.new regions.new names.new result }
+        → (c : CpuThere) → IsSharedRow (shared_ruling arguments.now (known_of s w) pid c) p w pid store.new regions.new names.new result }
 
     // What the calls of store, service and bus ask for goes on to hold, and so does what this call asks for.
     ensures word { result.value ≤ 65535 }
@@ -54,13 +55,11 @@ pub fn share(
     ensures goes_on { KeepsOrder store.old regions.old store.new regions.new }
 {
     match arguments {
-        SharedArguments::Name { size, text, .. } => {
+        SharedArguments::Name { size, text } => {
             alloc_shr_seg(store, regions, pid, *size, text.text(), names)
         }
-        SharedArguments::Share { text, .. } => {
-            get_shr_seg(store, regions, pid, text.text(), names)
-        }
-        SharedArguments::Give { selector, to, .. } => {
+        SharedArguments::Share(text) => { get_shr_seg(store, regions, pid, text.text(), names) }
+        SharedArguments::Give { selector, to } => {
             give_seg(store, regions, pid, *selector, *to, ends)
         }
         SharedArguments::Get(selector) => get_seg(store, regions, pid, *selector),

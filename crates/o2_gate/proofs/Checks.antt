@@ -8,11 +8,12 @@ use Rattle.o2_isa.specs.View.{View, Hold, Filling, found, bound_in, is_null, is_
 use Rattle.o2_isa.specs.Steps.{selector}
 use Rattle.o2_isa.specs.Pointers.{is_passed, is_for_es, has_range, is_good, is_ready}
 use Rattle.o2_isa.specs.Presence.{IsMissed, is_in}
-use Rattle.o2_run.specs.Room.{Pointer, pointed, passed}
+use Rattle.o2_world.specs.Slots.{Pointer}
+use Rattle.o2_run.specs.Room.{pointed, passed}
 use Rattle.o2_gate.specs.Befores.{boundless}
 use Rattle.o2_gate.specs.declared.pointer.Pointed.{Pointed}
 use Rattle.o2_gate.specs.declared.pointer.Pointed.TheVariants.{Good, Bad, Missed}
-use Rattle.o2_gate.specs.Pointed.{ArePresent, IsGoodTest, IsBadTest, IsMissedTest, Tells}
+use Rattle.o2_gate.specs.Pointed.{ArePresent, IsGoodTest, IsBadTest, IsMissedTest, Pointers, Tells, only}
 
 -- The rules for loading ES, by what a selector names.
 
@@ -130,17 +131,17 @@ module _ (v : View) (p : Pointer) where
   or_none a b e f = grind arith
 
   -- a range of no bytes
-  pub nothing : (p.count == 0) ≡ true → IsGoodTest v (p ∷ [])
+  pub nothing : (p.count == 0) ≡ true → IsGoodTest v (only p)
   unfolding is_good is_ready
   nothing zero = record {
     good = λ f. or_left (p.count == 0) _ zero;
-    ready = or_left (p.count == 0) _ zero;
+    ready = λ f. or_left (p.count == 0) _ zero;
     names = λ f. by_count true (boundless f v) zero (none_named v);
   }
 
   -- what the selector names can't be loaded into ES
   pub unfit : (p.count == 0) ≡ false
-      → ((f : Filling) (h : Hold) → bound_in v.held p.selector ≡ Some h → is_for_es (boundless f v) p.selector ≡ false) → IsBadTest v (p ∷ [])
+      → ((f : Filling) (h : Hold) → bound_in v.held p.selector ≡ Some h → is_for_es (boundless f v) p.selector ≡ false) → IsBadTest v (only p)
   unfolding is_good
   unfit some refuses = record {
     good = λ f. or_none (p.count == 0) _ some (by_hold f (bound_in v.held p.selector) (refuses f));
@@ -166,11 +167,11 @@ module _ (v : View) (p : Pointer) where
 
   -- it is present, and the range lies in it
   pub fits : (p.count == 0) ≡ false → is_for_es v p.selector ≡ true → (h : Hold) → bound_in v.held p.selector ≡ Some h → v.present h.name ≡ true
-      → p.good h.rights ≡ true → nat_le (p.offset + p.count) (length (v.bytes h.name)) ≡ true → IsGoodTest v (p ∷ [])
+      → p.good h.rights ≡ true → nat_le (p.offset + p.count) (length (v.bytes h.name)) ≡ true → IsGoodTest v (only p)
   unfolding is_good is_ready
   fits some es h is here good lies = record {
     good = λ f. or_right (p.count == 0) _ (all_good f);
-    ready = or_right (p.count == 0) _ (rw (is, here, good, lies) refl);
+    ready = λ f. or_right (p.count == 0) _ (rw (is, here, good, lies) refl);
     names = λ f. by_count false (boundless f v) some (names_present (boundless f v) (bound_in v.held p.selector) (only_hold h is here));
   }
     where
@@ -179,7 +180,7 @@ module _ (v : View) (p : Pointer) where
 
   -- it is present, and it isn't good for the pointer, or the range doesn't lie in it
   pub exceeds : (p.count == 0) ≡ false → (h : Hold) → bound_in v.held p.selector ≡ Some h → v.present h.name ≡ true
-      → (p.good h.rights && nat_le (p.offset + p.count) (length (v.bytes h.name))) ≡ false → IsBadTest v (p ∷ [])
+      → (p.good h.rights && nat_le (p.offset + p.count) (length (v.bytes h.name))) ≡ false → IsBadTest v (only p)
   unfolding is_good
   exceeds some h is here beyond = record {
     good = λ f. or_none (p.count == 0) _ some (none_good f);
@@ -303,49 +304,76 @@ module _ (n : ℕ) (w : View) (p : Pointer) (qs : List Pointer) where
       plain : (b : Bool) → (b && true) ≡ false → b ≡ false
       plain b e = grind arith
 
-module _ (v : View) (p : Pointer) (qs : List Pointer) where
-  and_one : (a b : Bool) → (a && true) ≡ true → b ≡ true → (a && b) ≡ true
-  and_one a b e f = grind arith
+and_one : (a b : Bool) → (a && true) ≡ true → b ≡ true → (a && b) ≡ true
+and_one a b e f = grind arith
 
-  and_none : (a b : Bool) → (a && true) ≡ true → b ≡ false → (a && b) ≡ false
-  and_none a b e f = grind arith
+and_none : (a b : Bool) → (a && true) ≡ true → b ≡ false → (a && b) ≡ false
+and_none a b e f = grind arith
 
-  and_bad : (a b : Bool) → (a && true) ≡ false → (a && b) ≡ false
-  and_bad a b e = grind arith
+and_bad : (a b : Bool) → (a && true) ≡ false → (a && b) ≡ false
+and_bad a b e = grind arith
 
-  pub good_then_good : IsGoodTest v (p ∷ []) → IsGoodTest v qs → IsGoodTest v (p ∷ qs)
+module _ (v : View) (p : View → Pointer) (qs : Pointers) where
+  abbrev first : Pointers
+  first w = p w ∷ []
+
+  abbrev both : Pointers
+  both w = p w ∷ qs w
+
+  good_then_good : IsGoodTest v first → IsGoodTest v qs → IsGoodTest v both
   good_then_good x y = record {
     good = λ f. and_one _ _ (x.good f) (y.good f);
-    ready = and_one _ _ x.ready y.ready;
-    names = λ f. present_split v (boundless f v) p qs (x.names f) (y.names f);
+    ready = λ f. and_one _ _ (x.ready f) (y.ready f);
+    names = λ f. present_split v (boundless f v) (p (boundless f v)) (qs (boundless f v)) (x.names f) (y.names f);
   }
 
-  pub good_then_bad : IsGoodTest v (p ∷ []) → IsBadTest v qs → IsBadTest v (p ∷ qs)
-  good_then_bad x y = record { good = λ f. and_none _ _ (x.good f) (y.good f); names = λ f. present_split v (boundless f v) p qs (x.names f) (y.names f) }
+  good_then_bad : IsGoodTest v first → IsBadTest v qs → IsBadTest v both
+  good_then_bad x y = record {
+    good = λ f. and_none _ _ (x.good f) (y.good f);
+    names = λ f. present_split v (boundless f v) (p (boundless f v)) (qs (boundless f v)) (x.names f) (y.names f);
+  }
 
-  pub good_then_missed : (s : Selector) → IsGoodTest v (p ∷ []) → IsMissedTest v s qs → IsMissedTest v s (p ∷ qs)
+  good_then_missed : (s : Selector) → IsGoodTest v first → IsMissedTest v s qs → IsMissedTest v s both
   unfolding is_good
   good_then_missed s x y = record {
     away = y.away;
     missed = λ f.
         let m = y.missed f in
-        record { hold = m.hold; found_it = m.found_it; absent = m.absent; named = names_behind m.hold.name (boundless f v) p qs (p.count == 0) (x.good f) m.named };
+        record {
+          hold = m.hold;
+          found_it = m.found_it;
+          absent = m.absent;
+          named = names_behind m.hold.name (boundless f v) (p (boundless f v)) (qs (boundless f v)) ((p (boundless f v)).count == 0) (x.good f) m.named;
+        };
   }
 
-  pub bad_first : IsBadTest v (p ∷ []) → IsBadTest v (p ∷ qs)
-  unfolding is_good
-  bad_first x = record { good = λ f. and_bad _ _ (x.good f); names = λ f n e. x.names f n (names_stop n (boundless f v) p qs (p.count == 0) (x.good f) e) }
+  -- behind a pointer that is good, the rest decides
+  pub then_tells : (r : Pointed) → IsGoodTest v first → Tells v qs r → Tells v both r
+  then_tells Good x y = good_then_good x y
+  then_tells Bad x y = good_then_bad x y
+  then_tells (Missed s) x y = good_then_missed s x y
 
-  pub missed_first : (s : Selector) → IsMissedTest v s (p ∷ []) → IsMissedTest v s (p ∷ qs)
+  pub bad_first : IsBadTest v first → IsBadTest v both
+  unfolding is_good
+  bad_first x = record {
+    good = λ f. and_bad _ _ (x.good f);
+    names = λ f n e. x.names f n (names_stop n (boundless f v) (p (boundless f v)) (qs (boundless f v)) ((p (boundless f v)).count == 0) (x.good f) e);
+  }
+
+  pub missed_first : (s : Selector) → IsMissedTest v s first → IsMissedTest v s both
   missed_first s x = record {
     away = x.away;
     missed = λ f.
         let m = x.missed f in
-        record { hold = m.hold; found_it = m.found_it; absent = m.absent; named = names_first m.hold.name (boundless f v) p qs (p.count == 0) (bound_in v.held p.selector) m.named };
+        let w = boundless f v in
+        record {
+          hold = m.hold;
+          found_it = m.found_it;
+          absent = m.absent;
+          named = names_first m.hold.name w (p w) (qs w) ((p w).count == 0) (bound_in v.held (p w).selector) m.named;
+        };
   }
 
-  -- behind a pointer that is good, the rest decides
-  pub then_tells : (r : Pointed) → IsGoodTest v (p ∷ []) → Tells v qs r → Tells v (p ∷ qs) r
-  then_tells Good x y = good_then_good x y
-  then_tells Bad x y = good_then_bad x y
-  then_tells (Missed s) x y = good_then_missed s x y
+-- no pointer
+pub no_pointers : (v : View) → IsGoodTest v (λ w. [])
+no_pointers v = record { good = λ f. refl; ready = λ f. refl; names = λ f. none_named v }

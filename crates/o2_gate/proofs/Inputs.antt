@@ -4,7 +4,7 @@ use Rattle.o2_isa.specs.declared.cpu.Cpu.{Cpu}
 use Rattle.o2_isa.specs.View.{View, Filling}
 use Rattle.o2_world.specs.Calls.{Before, Effect}
 use Rattle.o2_gate.specs.declared.called.Called.{Called}
-use Rattle.o2_gate.specs.declared.called.Called.TheVariants.{Back, Exited, Trap, Missed}
+use Rattle.o2_gate.specs.declared.called.Called.TheVariants.{Back, Exited, Trap, Missed, Asked}
 use Rattle.o2_run.specs.declared.steps.Stop.TheVariants as stop
 use Rattle.o2_run.specs.declared.fault.Fault.{Fault}
 use Rattle.o2_run.specs.declared.fault.Fault.TheVariants as fault
@@ -31,8 +31,23 @@ any_reason P Q S f b e cpu old new i j c d r q (Ok (Back put)) never does = does
 any_reason P Q S f b e cpu old new i j c d r q (Ok (Exited code)) never does = does
 any_reason P Q S f b e cpu old new i j c d r q (Ok (Trap vector code)) never does = does
 any_reason P Q S f b e cpu old new i j c d r q (Ok (Missed s)) never does = does
+any_reason P Q S f b e cpu old new i j c d r q (Ok (Asked a next)) never does = does
 any_reason P Q S f b e cpu old new i j c d r q (Err fault.Sink) never does = does
 any_reason P Q S f b e cpu old new i j c d r q (Err (fault.Stopped stop.Input)) never does = absurd never
 any_reason P Q S f b e cpu old new i j c d r q (Err (fault.Stopped stop.NoRoom)) never does = absurd never
 any_reason P Q S f b e cpu old new i j c d r q (Err (fault.Stopped stop.SwapFull)) never does = absurd never
 any_reason P Q S f b e cpu old new i j c d r q (Err (fault.Stopped stop.SwapFault)) never does = absurd never
+
+-- a reason that follows
+pub next_reason : (P Q : Type 0) → (P → Q) → (f : Filling) (b : Before) (e : Effect) (cpu : Cpu) (old new : View) (i j c d r q : Option (List ℕ)) (answer : Result Called Fault)
+    → DoesFor P f b e cpu old new i j c d r q answer → DoesFor Q f b e cpu old new i j c d r q answer
+next_reason P Q more f b e cpu old new i j c d r q (Ok (Back put)) does = does
+next_reason P Q more f b e cpu old new i j c d r q (Ok (Exited code)) does = does
+next_reason P Q more f b e cpu old new i j c d r q (Ok (Trap vector code)) does = does
+next_reason P Q more f b e cpu old new i j c d r q (Ok (Missed s)) does = does
+next_reason P Q more f b e cpu old new i j c d r q (Ok (Asked a next)) does = does
+next_reason P Q more f b e cpu old new i j c d r q (Err fault.Sink) does = does
+next_reason P Q more f b e cpu old new i j c d r q (Err (fault.Stopped stop.Input)) does = record { cause = more does.cause; untouched = does.untouched }
+next_reason P Q more f b e cpu old new i j c d r q (Err (fault.Stopped stop.NoRoom)) does = absurd does
+next_reason P Q more f b e cpu old new i j c d r q (Err (fault.Stopped stop.SwapFull)) does = absurd does
+next_reason P Q more f b e cpu old new i j c d r q (Err (fault.Stopped stop.SwapFault)) does = absurd does

@@ -1,36 +1,68 @@
--- Rows that have one line and nothing for the console, whatever they come to.
-use Rattle.std.proofs.Common.{◌≡◌, ℕ, Bool, true, false, ◌==◌, List, length, take, drop, sym, refl, subst, if◌then◌else◌}
-use Rattle.std.specs.Prelude.{Result, codes}
+-- The calls that are made over the bus: how they come out, and their line.
+use Rattle.std.proofs.Common.{◌≡◌, ℕ, ◌==◌, Bool, true, false, cond, List, [], ◌∷◌, take, drop, Option, ap, ◌∙◌, subst, if◌then◌else◌}
+use Rattle.std.proofs.lemmas.List.{append-nil}
+use Rattle.std.specs.Prelude.{Result}
+use Rattle.o2_outer.specs.declared.sink.Put.{Put}
+use Rattle.o2_outer.specs.Answers.{Takes}
+use Rattle.o2_outer.specs.Texts.{Gains, GainsSome, IsPrefix}
+use Rattle.o2_outer.proofs.TextLemmas.{puts_front, puts_more}
 use Rattle.o2_world.specs.declared.types.Argument.{Argument}
-use Rattle.o2_world.specs.declared.types.Transfer.{Transfer}
-use Rattle.o2_world.specs.Calls.{Before, Effect, trapped, told, argument, has_arguments, transfer_of, may_take, may_write, not_transferred, dos_read, read_from, read_with}
+use Rattle.o2_world.specs.declared.types.Argument.TheVariants as shown
+use Rattle.o2_world.specs.declared.types.Slot.{Slot}
+use Rattle.o2_world.specs.Calls.{Before, is_console, read_slots, reading, writing}
+use Rattle.o2_world.specs.Changes.{moved_lines}
+use Rattle.o2_world.specs.Outcomes.{Fails, come_out, row}
+use Rattle.o2_world.specs.Slots.{shown_in, values_in}
+use Rattle.o2_world.specs.Text.{line_text, lines_text}
+use Rattle.o2_world.specs.World.{Calls, Line}
 use Rattle.o2_run.specs.declared.fault.Fault.{Fault}
 use Rattle.o2_run.specs.Pieces.{Counts, SinkHands, PartHands}
+use Rattle.o2_gate.specs.declared.arguments.Arguments.{Arguments}
+use Rattle.o2_gate.specs.Given.{word_in}
+use Rattle.o2_gate.specs.Replies.{call_line}
+use Rattle.o2_gate.specs.Targets.{name_of, slots_of}
 use Rattle.o2_gate.specs.declared.called.Called.{Called}
+use Rattle.o2_gate.specs.Overs.{got_bytes, wrote}
 
-pub record IsLine (e : Effect) : Type 0 where
-  pub piece : length e.piece ≡ 0
-  pub lines : length e.lines ≡ 1
+pub slots_line : (number : ℕ) (name : List ℕ) (a : ℕ → ℕ) (error : ℕ) (values : List Argument) {ss ts : List Slot} → ss ≡ ts → (r q : Option (List ℕ)) (p : Put)
+    → Takes r q (lines_text (Calls number name (shown_in ss a) error values ∷ [])) p → Takes r q (lines_text (Calls number name (shown_in ts a) error values ∷ [])) p
+slots_line number name a error values is r q p e = subst (λ (x : List Slot). Takes r q (lines_text (Calls number name (shown_in x a) error values ∷ [])) p) is e
 
-pub by_line : (e : Effect) (n : Counts) (r : Result Called Fault) → IsLine e → SinkHands 0 1 n r → PartHands e n r
-by_line e n r is h = subst (λ (k : ℕ). SinkHands k (length e.lines) n r) (sym is.piece) (subst (λ (k : ℕ). SinkHands 0 k n r) (sym is.lines) h)
+module _ (b : Before) (a : ℕ → ℕ) where
+  pub reading_refused : (a 5 == 0) ≡ false → reading b a ≡ Fails 6 (shown.Word 0 ∷ [])
+  reading_refused e = ap (λ (c : Bool). cond c (got_bytes (take (a 2) b.input) (drop (a 2) b.input)) (Fails 6 (shown.Word 0 ∷ []))) e
 
-either : (c : Bool) (x y : Effect) → IsLine x → IsLine y → IsLine (if c then x else y)
-either true x y p q = p
-either false x y p q = q
+  pub reading_done : (got rest : List ℕ) → (a 5 == 0) ≡ true → take (a 2) b.input ≡ got → drop (a 2) b.input ≡ rest → reading b a ≡ got_bytes got rest
+  reading_done got rest e x y =
+      ap (λ (c : Bool). cond c (got_bytes (take (a 2) b.input) (drop (a 2) b.input)) (Fails 6 (shown.Word 0 ∷ []))) e
+      ∙ ap (λ (z : List ℕ). got_bytes z (drop (a 2) b.input)) x
+      ∙ ap (got_bytes got) y
 
-a_trap : (b : Before) (vector : ℕ) → IsLine (trapped b vector)
-a_trap b vector = record { piece = refl; lines = refl }
+  pub writing_refused : is_console (a 5) ≡ false → writing b a ≡ Fails 6 (shown.Word (a 2) ∷ [])
+  writing_refused e = ap (λ (c : Bool). cond c (wrote b a) (Fails 6 (shown.Word (a 2) ∷ []))) e
 
-pub told_line : (b : Before) (next : ℕ) (name part : List ℕ) (values : List Argument) → IsLine (told b next name part values)
-unfolding told
-told_line b next name part values =
-    either (has_arguments b.view b.cpu 2) _ _ (either (may_write b.view (argument b.view b.cpu 1) (argument b.view b.cpu 0) (length part)) _ _ (record { piece = refl; lines = refl }) (a_trap b 13)) (a_trap b 12)
+  pub writing_done : is_console (a 5) ≡ true → writing b a ≡ wrote b a
+  writing_done e = ap (λ (c : Bool). cond c (wrote b a) (Fails 6 (shown.Word (a 2) ∷ []))) e
 
-from_line : (b : Before) (next : ℕ) (t : Transfer) → IsLine (read_from b next t)
-from_line b next t =
-    either (may_take b t) _ _ (either (t.handle == 0) (read_with b next t (take t.count b.input) (drop t.count b.input)) (not_transferred (codes "DosRead") b next t 0) (record { piece = refl; lines = refl }) (record { piece = refl; lines = refl })) (a_trap b 13)
+  -- a DosRead has one line, and no piece
+  pub read_part : (name : List ℕ) (next : ℕ) (n : Counts) (r : Result Called Fault) → SinkHands 0 1 n r → PartHands (come_out (row name read_slots reading) b next a (reading b a)) n r
+  unfolding moved_lines
+  read_part name next n r e = go (a 5 == 0)
+    where
+      go : (c : Bool) → PartHands (come_out (row name read_slots reading) b next a (cond c (got_bytes (take (a 2) b.input) (drop (a 2) b.input)) (Fails 6 (shown.Word 0 ∷ [])))) n r
+      go true = e
+      go false = e
 
-pub read_line : (b : Before) (next : ℕ) → IsLine (dos_read b next)
-unfolding dos_read
-read_line b next = either (has_arguments b.view b.cpu 6) _ _ (from_line b next (transfer_of (argument b.view b.cpu))) (a_trap b 12)
+-- The line of a call on segments, and those behind it.
+
+pub line_is : (x : Arguments) (pid error value : ℕ) {name : List ℕ} {ss : List Slot} → name ≡ name_of x → ss ≡ slots_of x
+    → Calls pid name (shown_in ss (word_in x.words)) error (if error == 0 then values_in ss value else []) ≡ call_line x pid error value
+line_is x pid error value {name} {ss} same slots =
+    ap (λ (n : List ℕ). Calls pid n (shown_in ss (word_in x.words)) error (if error == 0 then values_in ss value else [])) same
+    ∙ ap (λ (ts : List Slot). Calls pid (name_of x) (shown_in ts (word_in x.words)) error (if error == 0 then values_in ts value else [])) slots
+
+pub reply_front : (l : Line) (rest : List Line) (a b : Option (List ℕ)) → GainsSome a b (λ front. IsPrefix front (lines_text (l ∷ []))) → GainsSome a b (λ front. IsPrefix front (lines_text (l ∷ rest)))
+reply_front l rest a b g = puts_front (line_text l) (lines_text rest) a b (subst (λ (t : List ℕ). GainsSome a b (λ front. IsPrefix front t)) (append-nil (line_text l)) g)
+
+pub reply_more : (l : Line) (rest : List Line) (a b c : Option (List ℕ)) (r : Put) → Gains a b (lines_text (l ∷ [])) → Takes b c (lines_text rest) r → Takes a c (lines_text (l ∷ rest)) r
+reply_more l rest a b c r g h = puts_more (line_text l) (lines_text rest) a b c r (subst (Gains a b) (append-nil (line_text l)) g) h

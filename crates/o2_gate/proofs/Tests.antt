@@ -1,5 +1,5 @@
 -- What the test of one pointer tells, by what it found.
-use Rattle.std.proofs.Common.{◌≡◌, ℕ, ◌+◌, Bool, true, false, cond, not, ◌&&◌, ◌||◌, ◌==◌, nat_le, [], ◌∷◌, length, Option, Some, None, ap, sym, ◌∙◌, refl, subst, if◌then◌else◌}
+use Rattle.std.proofs.Common.{◌≡◌, ℕ, ◌+◌, Bool, true, false, cond, not, ◌&&◌, ◌||◌, ◌==◌, nat_le, length, Option, Some, None, ap, sym, ◌∙◌, refl, subst, if◌then◌else◌}
 use Rattle.o2_base.specs.declared.selector.Selector.{Selector}
 use Rattle.o2_isa.specs.declared.cpu.Purpose.TheVariants.{DataReg}
 use Rattle.o2_isa.specs.declared.cpu.Loaded.TheVariants as loaded
@@ -7,7 +7,7 @@ use Rattle.o2_isa.specs.View.{View, Hold, found, bound_in, is_null, is_readable,
 use Rattle.o2_isa.specs.Steps.{selector}
 use Rattle.o2_isa.specs.Sizes.{IsSized}
 use Rattle.o2_isa.specs.Pointers.{is_passed, is_for_es}
-use Rattle.o2_gate.specs.Pointed.{pointer, writes_to, lies_within, allows, IsGoodTest, IsBadTest, IsMissedTest}
+use Rattle.o2_gate.specs.Pointed.{only, pointer, writes_to, lies_within, allows, IsGoodTest, IsBadTest, IsMissedTest}
 use Rattle.o2_gate.proofs.Checks.{es_boundless, IsSeen, done_seen, miss_seen, nothing, unfit, fits, exceeds, misses}
 
 -- What a selector that isn't null names.
@@ -33,13 +33,13 @@ both true false e = absurd (cc)
 both false b e = absurd (cc)
 
 module _ (v : View) (writes : Bool) (s o n : ℕ) where
-  pub empty_test : (n == 0) ≡ true → IsGoodTest v (pointer writes s o n ∷ [])
+  pub empty_test : (n == 0) ≡ true → IsGoodTest v (only (pointer writes s o n))
   empty_test zero = nothing v (pointer writes s o n) zero
 
-  pub null_test : (n == 0) ≡ false → is_null s ≡ true → IsBadTest v (pointer writes s o n ∷ [])
+  pub null_test : (n == 0) ≡ false → is_null s ≡ true → IsBadTest v (only (pointer writes s o n))
   null_test some null = unfit v (pointer writes s o n) some (λ f h is. absurd (let e = null_bound (is_null s) (found v s) h null is in cc))
 
-  pub unloaded_test : (n == 0) ≡ false → is_for_es v s ≡ false → IsBadTest v (pointer writes s o n ∷ [])
+  pub unloaded_test : (n == 0) ≡ false → is_for_es v s ≡ false → IsBadTest v (only (pointer writes s o n))
   unloaded_test some e = unfit v (pointer writes s o n) some (λ f h is. es_boundless f v s ∙ e)
 
   module _ (some : (n == 0) ≡ false) (null_not : is_null s ≡ false) where
@@ -56,19 +56,19 @@ module _ (v : View) (writes : Bool) (s o n : ℕ) where
           ∙ ap (λ (k : ℕ). (not writes || is_writable seen.hold.rights) && nat_le (o + n) k) (sized.bytes seen.hold.name seen.at_hand)
           ∙ subst (λ (x : Option Hold). ((not writes || writes_to x) && lies_within v o n x) ≡ z) seen.found_it allowed
 
-      pub within_test : allows writes v s o n ≡ true → IsGoodTest v (pointer writes s o n ∷ [])
+      pub within_test : allows writes v s o n ≡ true → IsGoodTest v (only (pointer writes s o n))
       within_test allowed =
           let parts = both (rights writes seen.hold.rights) is_inside (allowed_at true allowed) in
           fits v (pointer writes s o n) some (sym (ap is_passed done)) seen.hold (found_bound v s seen.hold null_not seen.found_it) seen.at_hand parts.0 parts.1
 
-      pub beyond_test : allows writes v s o n ≡ false → IsBadTest v (pointer writes s o n ∷ [])
+      pub beyond_test : allows writes v s o n ≡ false → IsBadTest v (only (pointer writes s o n))
       beyond_test allowed = exceeds v (pointer writes s o n) some seen.hold (found_bound v s seen.hold null_not seen.found_it) seen.at_hand (allowed_at false allowed)
 
-    pub missed_test : (t : Selector) → loaded.Miss t ≡ probe_of v DataReg (selector s) → IsMissedTest v t (pointer writes s o n ∷ [])
+    pub missed_test : (t : Selector) → loaded.Miss t ≡ probe_of v DataReg (selector s) → IsMissedTest v t (only (pointer writes s o n))
     missed_test t miss =
         let u = miss_seen v s t null_not miss in
         let seen = u.seen in
-        subst (λ (x : Selector). IsMissedTest v x (pointer writes s o n ∷ [])) (sym u.same) (record {
+        subst (λ (x : Selector). IsMissedTest v x (only (pointer writes s o n))) (sym u.same) (record {
           away = record { hold = seen.hold; found_it = seen.found_it; absent = seen.at_hand };
           missed = λ f. misses v (pointer writes s o n) some (sym (ap is_passed miss)) seen.hold seen.found_it (found_bound v s seen.hold null_not seen.found_it) seen.at_hand f;
         })

@@ -10,12 +10,12 @@ use Rattle.o2_isa.specs.Presence.{IsMissed}
 use Rattle.o2_world.specs.SharedNames.{before_zero, bytes_at, bytes_from, looked_at, text_size}
 use Rattle.o2_run.specs.Room.{passed, pointed}
 use Rattle.o2_gate.specs.Befores.{boundless}
-use Rattle.o2_gate.specs.Pointed.{ArePresent, IsBadTest, IsGoodTest, IsMissedTest, pointer}
-use Rattle.o2_gate.specs.SharedReplies.{IsRead, IsTextMissed, IsUnread}
+use Rattle.o2_gate.specs.Pointed.{ArePresent, IsBadTest, IsGoodTest, IsMissedTest, only, pointer, text_pointer}
+use Rattle.o2_gate.specs.Given.{IsRead}
 use Rattle.o2_gate.specs.Texts.{IsCutOff, IsTextOf, counted}
 
 -- some bytes of a text are looked at, whatever it is
-size_some : (n : ℕ) (xs : List ℕ) → 0 < n → 1 ≤ looked_at n xs
+pub size_some : (n : ℕ) (xs : List ℕ) → 0 < n → 1 ≤ looked_at n xs
 size_some zero xs some = absurd (omega (arith, some))
 size_some (suc n) [] some = omega arith
 size_some (suc n) (x ∷ xs) some = go (x == 0)
@@ -99,6 +99,9 @@ plain_not : (b : Bool) → (b && true) ≡ false → b ≡ false
 plain_not true e = absurd (let z : true ≡ false = e in cc)
 plain_not false e = refl
 
+not_with_true : (b : Bool) → b ≡ false → (b && true) ≡ false
+not_with_true b e = grind arith
+
 with_true : (b : Bool) → b ≡ true → (b && true) ≡ true
 with_true true e = refl
 with_true false e = absurd (let z : false ≡ true = e in cc)
@@ -108,15 +111,15 @@ module _ (v : View) (s o : ℕ) where
   size_is_some : (f : Filling) → 1 ≤ text_size (boundless f v) s o
   size_is_some f = size_some 129 (bytes_at (boundless f v) s o) (omega arith)
 
-  pub text_bad : IsBadTest v (pointer false s o 1 ∷ []) → IsUnread v s o
+  pub text_bad : IsBadTest v (only (pointer false s o 1)) → IsBadTest v (text_pointer s o)
   text_bad x = record {
     good = λ f.
-        part_bad (is_good is_readable (boundless f v) s o (text_size (boundless f v) s o)) (is_good is_readable (boundless f v) s o 1)
-        (good_less (boundless f v) s o 1 (text_size (boundless f v) s o) (omega arith) (size_is_some f)) (plain_not (is_good is_readable (boundless f v) s o 1) (x.good f));
+        not_with_true _ (part_bad (is_good is_readable (boundless f v) s o (text_size (boundless f v) s o)) (is_good is_readable (boundless f v) s o 1)
+        (good_less (boundless f v) s o 1 (text_size (boundless f v) s o) (omega arith) (size_is_some f)) (plain_not (is_good is_readable (boundless f v) s o 1) (x.good f)));
     names = λ f. subst (ArePresent v) (same_names (boundless f v) s o 1 (text_size (boundless f v) s o) (omega arith) (size_is_some f)) (x.names f);
   }
 
-  pub text_missed : (sel : Selector) → IsMissedTest v sel (pointer false s o 1 ∷ []) → IsTextMissed v s o sel
+  pub text_missed : (sel : Selector) → IsMissedTest v sel (only (pointer false s o 1)) → IsMissedTest v sel (text_pointer s o)
   text_missed sel x = record {
     away = x.away;
     missed = λ f. subst (IsMissed v sel) (same_names (boundless f v) s o 1 (text_size (boundless f v) s o) (omega arith) (size_is_some f)) (x.missed f);
@@ -162,9 +165,9 @@ module _ (v : View) (s o : ℕ) where
         },
       )
 
-  pub there : IsSized v → IsGoodTest v (pointer false s o 1 ∷ []) → (size : ℕ) × IsThere size
+  pub there : IsSized v → IsGoodTest v (only (pointer false s o 1)) → (size : ℕ) × IsThere size
   unfolding is_ready
-  there sized x = there_by sized (bound_in v.held s) refl (plain (has_present_range is_readable v o 1 (bound_in v.held s)) x.ready)
+  there sized x = there_by sized (bound_in v.held s) refl (plain (has_present_range is_readable v o 1 (bound_in v.held s)) (x.ready (record { blocks = λ n. []; hidden = v.hidden })))
 
   module _ (size : ℕ) (x : IsThere size) where
     many : ℕ
@@ -212,17 +215,17 @@ module _ (v : View) (s o : ℕ) where
       pub front : (f : Filling) → bytes_at (boundless f v) s o ≡ part ++ drop n (drop o (v.bytes x.hold.name))
       front f = behind f ∙ parted (drop o (v.bytes x.hold.name)) ∙ ap (λ (ys : List ℕ). ys ++ drop n (drop o (v.bytes x.hold.name))) (sym (range_here f))
 
-      pub text_read : (t : List ℕ) → length part ≡ n → IsTextOf part t → IsGoodTest v (pointer false s o 1 ∷ []) → o + n ≤ size → IsRead v s o (record { selector = s; offset = o; bytes = t })
+      pub text_read : (t : List ℕ) → length part ≡ n → IsTextOf part t → IsGoodTest v (only (pointer false s o 1)) → o + n ≤ size → IsRead v s o (record { bytes = t })
       unfolding is_good
       text_read t long is_text good fits = record {
-        selector_is = refl;
-        offset_is = refl;
         text = λ f. ap (λ (bs : List ℕ). before_zero (take 129 bs)) (front f) ∙ is_text.text_is (drop n (drop o (v.bytes x.hold.name)));
         size = text_long;
         test = record {
-          good = λ f. with_true (is_good is_readable (boundless f v) s o (looked_at 129 t)) (good_there f);
-          ready = with_true (is_ready is_readable v s o (looked_at 129 t)) (ready_there (looked_at 129 t) (size_some 129 t (omega arith)) (let l = is_text.fits in omega (arith, l, long, fits)));
-          names = λ f. subst (ArePresent v) (same_names (boundless f v) s o 1 (looked_at 129 t) (omega arith) (size_some 129 t (omega arith))) (good.names f);
+          good = λ f. with_true _ (subst (λ (k : ℕ). is_good is_readable (boundless f v) s o k ≡ true) (sym (text_long f)) (good_there f));
+          ready = λ f.
+              with_true _ (subst (λ (k : ℕ). is_ready is_readable v s o k ≡ true) (sym (text_long f))
+              (ready_there (looked_at 129 t) (size_some 129 t (omega arith)) (let l = is_text.fits in omega (arith, l, long, fits))));
+          names = λ f. subst (ArePresent v) (same_names (boundless f v) s o 1 (text_size (boundless f v) s o) (omega arith) (size_is_some f)) (good.names f);
         };
       }
         where
@@ -250,10 +253,10 @@ module _ (v : View) (s o : ℕ) where
               holds false false b c p q r = absurd (cc)
 
       -- there are fewer bytes than are looked at
-      pub text_cut : IsCutOff part → length part ≡ n → n ≡ min (size - o) 129 → IsGoodTest v (pointer false s o 1 ∷ []) → IsUnread v s o
+      pub text_cut : IsCutOff part → length part ≡ n → n ≡ min (size - o) 129 → IsGoodTest v (only (pointer false s o 1)) → IsBadTest v (text_pointer s o)
       unfolding is_good
       text_cut cut long count good = record {
-        good = none_good;
+        good = λ f. not_with_true _ (none_good f);
         names = λ f. subst (ArePresent v) (same_names (boundless f v) s o 1 (text_size (boundless f v) s o) (omega arith) (size_is_some f)) (good.names f);
       }
         where
@@ -288,7 +291,7 @@ module _ (v : View) (s o : ℕ) where
               last false b c e = refl
 
 -- The text behind a pointer, over a bus that shows this view as before.
-module _ (v u : View) (s o n : ℕ) (same : u ≡ v) (sized : IsSized v) (good : IsGoodTest v (pointer false s o 1 ∷ [])) (count : n ≡ counted (size_at u s) o) where
+module _ (v u : View) (s o n : ℕ) (same : u ≡ v) (sized : IsSized v) (good : IsGoodTest v (only (pointer false s o 1))) (count : n ≡ counted (size_at u s) o) where
   abbrev whole_size : ℕ
   whole_size = (there v s o sized good).0
 
@@ -311,8 +314,8 @@ module _ (v u : View) (s o n : ℕ) (same : u ≡ v) (sized : IsSized v) (good :
     is_old : (f : Filling) → part ≡ range_of v.held (boundless f v).bytes s o n
     is_old f = is f ∙ ap (λ (w : View). range_of w.held (whole f w).bytes s o n) same
 
-    pub some_read : (t : List ℕ) → IsTextOf part t → IsRead v s o (record { selector = s; offset = o; bytes = t })
+    pub some_read : (t : List ℕ) → IsTextOf part t → IsRead v s o (record { bytes = t })
     some_read t text = text_read v s o whole_size is_there n part count_one is_old t long text good count_fits
 
-    pub none_read : IsCutOff part → IsUnread v s o
+    pub none_read : IsCutOff part → IsBadTest v (text_pointer s o)
     none_read cut = text_cut v s o whole_size is_there n part count_one is_old cut long count_min good

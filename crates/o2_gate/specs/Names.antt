@@ -1,13 +1,10 @@
 -- What an answer of a call tells of the names behind its pointers.
-use Rattle.std.specs.Prelude.{ℕ, List, [], ◌∷◌, Result, Ok, Err, if◌then◌else◌}
-use Rattle.o2_isa.specs.declared.cpu.Cpu.{Cpu}
-use Rattle.o2_isa.specs.View.{View, Filling, is_writable}
+use Rattle.std.specs.Prelude.{ℕ, List, Result, Ok, Err}
+use Rattle.o2_isa.specs.View.{View, Filling}
 use Rattle.o2_isa.specs.Presence.{IsMissed}
-use Rattle.o2_world.specs.Calls.{argument, has_arguments}
 use Rattle.o2_run.specs.declared.fault.Fault.{Fault}
-use Rattle.o2_run.specs.Room.{pointed, pointer_at}
 use Rattle.o2_gate.specs.declared.called.Called.{Called}
-use Rattle.o2_gate.specs.declared.called.Called.TheVariants.{Back, Exited, Trap, Missed}
+use Rattle.o2_gate.specs.declared.called.Called.TheVariants.{Back, Exited, Trap, Missed, Asked}
 use Rattle.o2_gate.specs.Pointed.{ArePresent}
 
 -- where a segment is missed it is behind one of these names, and at every other answer all of them are present; the names are
@@ -17,9 +14,5 @@ TellsNames v names (Ok (Missed s)) = (f : Filling) → IsMissed v s (names f)
 TellsNames v names (Ok (Back put)) = (f : Filling) → ArePresent v (names f)
 TellsNames v names (Ok (Exited code)) = (f : Filling) → ArePresent v (names f)
 TellsNames v names (Ok (Trap vector code)) = (f : Filling) → ArePresent v (names f)
+TellsNames v names (Ok (Asked a next)) = (f : Filling) → ArePresent v (names f)
 TellsNames v names (Err x) = (f : Filling) → ArePresent v (names f)
-
--- the names of a call with one pointer, behind which so many bytes are written
-abbrev pub told_names : View → Cpu → (count : ℕ) → List ℕ
-told_names v c count =
-    if has_arguments v c 2 then pointed v (pointer_at (argument v c) 0 count is_writable ∷ []) else []

@@ -3,9 +3,10 @@ use Rattle.std.specs.Prelude.{◌≡◌, ℕ, ◌+◌, nat_le, Bool, true, false
 use Rattle.o2_base.specs.declared.selector.Selector.{Selector}
 use Rattle.o2_isa.specs.View.{View, Hold, Filling, is_readable, is_writable, found}
 use Rattle.o2_isa.specs.Presence.{IsMissed, is_in}
-use Rattle.o2_isa.specs.Pointers.{is_good, is_ready}
-use Rattle.o2_world.specs.declared.types.Transfer.{Transfer}
-use Rattle.o2_run.specs.Room.{Pointer, pointed}
+use Rattle.o2_isa.specs.Pointers.{is_ready}
+use Rattle.o2_world.specs.SharedNames.{text_size}
+use Rattle.o2_world.specs.Slots.{Pointer, are_good}
+use Rattle.o2_run.specs.Room.{pointed}
 use Rattle.o2_gate.specs.declared.pointer.Pointed.{Pointed}
 use Rattle.o2_gate.specs.declared.pointer.Pointed.TheVariants.{Good, Bad, Missed}
 use Rattle.o2_gate.specs.Befores.{boundless}
@@ -28,10 +29,6 @@ lies_within v offset count (Some h) = nat_le (offset + count) (v.size h.name)
 abbrev pub allows : (writes : Bool) → View → (s offset count : ℕ) → Bool
 allows writes v s offset count = (not writes || writes_to (found v s)) && lies_within v offset count (found v s)
 
-abbrev pub are_good : View → List Pointer → Bool
-are_good v [] = true
-are_good v (p ∷ ps) = is_good p.good v p.selector p.offset p.count && are_good v ps
-
 abbrev pub are_ready : View → List Pointer → Bool
 are_ready v [] = true
 are_ready v (p ∷ ps) = is_ready p.good v p.selector p.offset p.count && are_ready v ps
@@ -40,14 +37,27 @@ are_ready v (p ∷ ps) = is_ready p.good v p.selector p.offset p.count && are_re
 abbrev pub ArePresent : View → List ℕ → Type 0
 ArePresent v names = (n : ℕ) → is_in n names ≡ true → v.present n ≡ true
 
-pub record IsGoodTest (v : View) (ps : List Pointer) : Type 0 where
-  pub good : (f : Filling) → are_good (boundless f v) ps ≡ true
-  pub ready : are_ready v ps ≡ true
-  pub names : (f : Filling) → ArePresent v (pointed (boundless f v) ps)
+-- Pointers by what is seen: how many bytes one to a text is for is told by the text.
 
-pub record IsBadTest (v : View) (ps : List Pointer) : Type 0 where
-  pub good : (f : Filling) → are_good (boundless f v) ps ≡ false
-  pub names : (f : Filling) → ArePresent v (pointed (boundless f v) ps)
+abbrev pub Pointers : Type 0
+Pointers = View → List Pointer
+
+abbrev pub only : Pointer → Pointers
+only p v = p ∷ []
+
+abbrev pub text_pointer : (selector offset : ℕ) → Pointers
+text_pointer s o v = pointer false s o (text_size v s o) ∷ []
+
+-- Over what a bus shows, whatever is in place of what is absent.
+
+pub record IsGoodTest (v : View) (ps : Pointers) : Type 0 where
+  pub good : (f : Filling) → are_good (boundless f v) (ps (boundless f v)) ≡ true
+  pub ready : (f : Filling) → are_ready v (ps (boundless f v)) ≡ true
+  pub names : (f : Filling) → ArePresent v (pointed (boundless f v) (ps (boundless f v)))
+
+pub record IsBadTest (v : View) (ps : Pointers) : Type 0 where
+  pub good : (f : Filling) → are_good (boundless f v) (ps (boundless f v)) ≡ false
+  pub names : (f : Filling) → ArePresent v (pointed (boundless f v) (ps (boundless f v)))
 
 -- the selector names a segment that isn't present
 pub record IsAway (v : View) (s : Selector) : Type 0 where
@@ -55,17 +65,13 @@ pub record IsAway (v : View) (s : Selector) : Type 0 where
   pub found_it : found v s.0 ≡ Some hold
   pub absent : v.present hold.name ≡ false
 
-pub record IsMissedTest (v : View) (s : Selector) (ps : List Pointer) : Type 0 where
+pub record IsMissedTest (v : View) (s : Selector) (ps : Pointers) : Type 0 where
   pub away : IsAway v s
-  pub missed : (f : Filling) → IsMissed v s (pointed (boundless f v) ps)
+  pub missed : (f : Filling) → IsMissed v s (pointed (boundless f v) (ps (boundless f v)))
 
 -- the boundless machine's pointers, tested in order over a bus with this view: all are good, one is bad, or a name is missed
 -- that has passed
-abbrev pub Tells : View → List Pointer → Pointed → Type 0
+abbrev pub Tells : View → Pointers → Pointed → Type 0
 Tells v ps Good = IsGoodTest v ps
 Tells v ps Bad = IsBadTest v ps
 Tells v ps (Missed s) = IsMissedTest v s ps
-
--- both pointers of a transfer: to the buffer, from which bytes are read or to which they are written, and to their number
-abbrev pub transfer_pointers : (writes : Bool) → Transfer → List Pointer
-transfer_pointers writes t = pointer writes t.selector t.offset t.count ∷ pointer true t.done_selector t.done_offset 2 ∷ []

@@ -1,6 +1,11 @@
 -- The text at the front of bytes.
 use Rattle.std.specs.Prelude.{◌≡◌, ℕ, ◌-◌, ◌<◌, ◌≤◌, ◌++◌, List, length, min, take, Option, Some, None}
 use Rattle.o2_world.specs.SharedNames.{before_zero, looked_at}
+use Rattle.o2_gate.specs.declared.text.TextArgument.{TextArgument}
+
+-- The text behind a pointer: up to a zero among its bytes, where there is one.
+abbrev pub text_of : TextArgument → Option (List ℕ)
+text_of t = before_zero t.bytes
 
 -- how many bytes are looked at from an offset on, in a segment of such a size
 abbrev pub counted : Option ℕ → (offset : ℕ) → ℕ

@@ -1,5 +1,6 @@
 // What a call came to.
 
+use crate::arguments::Arguments;
 use o2_base::Selector;
 
 /// What a call of a service came to, where neither the input nor a sink fails.
@@ -14,4 +15,7 @@ pub enum Called {
     Trap(u8, u16),
     /// The segment behind this selector, a pointer of the call that passed, isn't present; nothing is changed, taken or put.
     Missed(Selector),
+    /// A call on segments that comes back to `next`: its arguments lie in SS, and its pointers are good. Nothing is changed, taken or
+    /// put yet.
+    Asked { arguments: Arguments, next: u16 },
 }

@@ -1,5 +1,5 @@
 // The call of a service.
-ghost use Rattle.std.specs.Prelude.{◌≡◌, ◌≢◌, ◌≤◌, ◌⊎◌, ℕ, List, IfSome, None, Option, Some};
+ghost use Rattle.std.specs.Prelude.{◌≡◌, ◌≢◌, ◌≤◌, ◌⊎◌, ℕ, List, Option, Some, true};
 ghost use Rattle.o2_outer.specs.Texts.{Rose};
 ghost use Rattle.o2_outer.specs.Inputs.{GoesOn, IsSeenAs, left_as};
 ghost use Rattle.o2_isa.specs.View.{Filling, IsBound};
@@ -7,80 +7,93 @@ ghost use Rattle.o2_isa.specs.Pointers.{KeepsAllButBytes};
 ghost use Rattle.o2_isa.specs.Presence.{SameSelectors};
 ghost use Rattle.o2_bus.specs.Writes.{WritesHeld};
 ghost use Rattle.o2_world.specs.Known.{Known};
-ghost use Rattle.o2_world.specs.Calls.{argument, serviced, row_of as number_row, IsPlain};
+ghost use Rattle.o2_world.specs.Calls.{argument, serviced, row_of as row_there};
+ghost use Rattle.o2_world.specs.Outcomes.{CallRow, come_out};
+ghost use Rattle.o2_world.specs.Slots.{pointers_in};
 ghost use Rattle.o2_gate.specs.Befores.{boundless, before_call, IsKnown};
-ghost use Rattle.o2_gate.specs.Called.{Does, OnMissed};
-ghost use Rattle.o2_gate.specs.Gathers.{row_for};
-ghost use Rattle.o2_gate.specs.Pointed.{IsAway};
+ghost use Rattle.o2_gate.specs.Called.{Does, OnAsked, OnMissed, OnUndone};
+ghost use Rattle.o2_gate.specs.Given.{IsTextIn, pointers_by, word_in};
+ghost use Rattle.o2_gate.specs.Pointed.{IsAway, IsGoodTest, are_ready};
 ghost use Rattle.o2_gate.specs.Names.{TellsNames};
-ghost use Rattle.o2_run.specs.Room.{call_names};
+ghost use Rattle.o2_gate.specs.Rows.{IsRowOf};
+ghost use Rattle.o2_gate.specs.Targets.{targets};
+ghost use Rattle.o2_run.specs.Room.{call_names, pointed};
 ghost use Rattle.o2_run.specs.Faults.{Caused};
 ghost use Rattle.o2_gate.specs.Pieces.{CallHands};
 ghost use Rattle.o2_run.specs.Pieces.{counts, PartHands};
 
-use crate::exit::dos_exit;
-use crate::gathering::AskedCall;
-use crate::mem_avail::dos_mem_avail;
-use crate::pid::dos_get_pid;
-use crate::read::dos_read;
-use crate::write::dos_write;
+use crate::ask::ask;
+use crate::exit::exit;
+use crate::given::{Gathered, Given, gather};
+use crate::read::read;
+use crate::row::Row;
+use crate::table::row_of;
+use crate::told::{tell_avail, tell_pid};
+use crate::write::write;
 use crate::{Called, State};
 use o2_bus::Ranges;
 use o2_isa::Cpu;
 use o2_outer::{Sink, Source};
+use o2_report::LineBuffer;
 use o2_run::Fault;
-use o2_world::{HugeCall, Row, SegmentCall, SharedCall};
 
-/// The row of a service, where it has one.
-fn row_of(service: u16) -> Option<Row>
-    ensures row { result ≡ number_row service }
-    ensures read { result ≡ Some Row.DosRead → service ≡ 3 }
-    ensures write { result ≡ Some Row.DosWrite → service ≡ 4 }
+/// A call that doesn't go to the input, with its arguments, whose pointers are good.
+fn serve<B: Ranges, C: Sink, R: Sink>(
+    service: u16,
+    next: u16,
+    pid: u16,
+    avail: u32,
+    row: &Row,
+    given: &Given,
+    cpu: &mut Cpu,
+    bus: &mut B,
+    line: &mut LineBuffer,
+    console: &mut C,
+    report: &mut R,
+) -> Result<Called, Fault>
+    requires first { 1 ≤ service }
+    requires last { service ≤ 19 }
+    requires other { service ≢ 3 }
+    requires row { IsRowOf (row_there service) (Some row.now) }
+    requires test { IsGoodTest (B.view bus.old) (pointers_by row.now.slots.now (word_in given.now.words)) }
+    requires text { IsTextIn (B.view bus.old) (word_in given.now.words) given.now.text row.now.slots.now }
+    ensures does { (f : Filling) (bytes : List ℕ) (known : Known) (i : Option (List ℕ)) (r : CallRow)
+        → i ≡ Some bytes → known.avail ≡ avail → row_there service ≡ Some r
+        → let b = before_call (boundless f (B.view bus.old)) pid cpu.old bytes known in let a = word_in given.now.words in
+        Does f b (come_out r b next a (r.outcome b a)) cpu.new (B.view bus.old) (B.view bus.new)
+        i i (C.taken console.old) (C.taken console.new) (R.taken report.old) (R.taken report.new) result }
+    ensures frame { KeepsAllButBytes (B.view bus.old) (B.view bus.new) }
+    ensures writes { WritesHeld (B.view bus.old) (B.view bus.new) }
+    ensures selectors { SameSelectors cpu.old cpu.new }
+    ensures never { OnMissed result (λ s. ⊥) }
+    ensures still { OnUndone result ((cpu.new ≡ cpu.old) × (B.view bus.new ≡ B.view bus.old) × (console.new ≡ console.old) × (report.new ≡ report.old)) }
+    ensures aims { OnAsked result (λ a. (f : Filling)
+        → pointers_in row.now.slots.now (boundless f (B.view bus.old)) (word_in given.now.words) ≡ targets a) }
+    ensures no_console { service ≢ 4 → console.new ≡ console.old }
+    ensures console_count { C.faults console.old ≤ C.faults console.new }
+    ensures report_count { R.faults report.old ≤ R.faults report.new }
+    ensures cause { Caused (Rose (C.faults console.old) (C.faults console.new) ⊎ Rose (R.faults report.old) (R.faults report.new)) ⊥ ⊥ ⊥ result }
+    ensures puts { CallHands (counts (C.puts console.old) (C.puts console.new) (R.puts report.old) (R.puts report.new) 0) result }
+    ensures part { (f : Filling) (bytes : List ℕ) (known : Known) (r : CallRow) → known.avail ≡ avail → row_there service ≡ Some r
+        → let b = before_call (boundless f (B.view bus.old)) pid cpu.old bytes known in let a = word_in given.now.words in
+        PartHands (come_out r b next a (r.outcome b a))
+        (counts (C.puts console.old) (C.puts console.new) (R.puts report.old) (R.puts report.new) 0) result }
 {
+    let words = &given.words;
     match service {
-        1 => Some(Row::DosExit),
-        2 => Some(Row::DosGetPid),
-        3 => Some(Row::DosRead),
-        4 => Some(Row::DosWrite),
-        5 => Some(Row::OnSegments(SegmentCall::DosAllocSeg)),
-        6 => Some(Row::OnSegments(SegmentCall::DosReallocSeg)),
-        7 => Some(Row::OnSegments(SegmentCall::DosFreeSeg)),
-        8 => Some(Row::OnSegments(SegmentCall::DosSizeSeg)),
-        9 => Some(Row::OnSegments(SegmentCall::DosLockSeg)),
-        10 => Some(Row::OnSegments(SegmentCall::DosUnlockSeg)),
-        11 => Some(Row::OnSegments(SegmentCall::DosCreateCsAlias)),
-        12 => Some(Row::OnShared(SharedCall::DosAllocShrSeg)),
-        13 => Some(Row::OnShared(SharedCall::DosGetShrSeg)),
-        14 => Some(Row::OnShared(SharedCall::DosGiveSeg)),
-        15 => Some(Row::OnShared(SharedCall::DosGetSeg)),
-        16 => Some(Row::OnRuns(HugeCall::DosAllocHuge)),
-        17 => Some(Row::OnRuns(HugeCall::DosReallocHuge)),
-        18 => Some(Row::OnRuns(HugeCall::DosGetHugeShift)),
-        19 => Some(Row::DosMemAvail),
-        _ => None,
+        1 => exit(pid, words[1], words[0], line, report),
+        2 => tell_pid(pid, next, row, words, cpu, bus, line, report),
+        4 => write(pid, next, row, words, cpu, bus, line, console, report),
+        19 => tell_avail(pid, next, avail, row, words, cpu, bus, line, report),
+        _ => {
+            let arguments = ask(service, given);
+            Ok(Called::Asked { arguments, next })
+        }
     }
 }
 
-/// The call that a service is, where it isn't made over the bus.
-pub fn asked_call(service: u16) -> Option<AskedCall>
-    ensures some { IfSome result (λ call. number_row service ≡ Some (row_for call)) }
-    ensures none { result ≡ None → IsPlain (number_row service) }
-{
-    match row_of(service) {
-        None => None,
-        Some(Row::DosExit) => None,
-        Some(Row::DosGetPid) => None,
-        Some(Row::DosRead) => None,
-        Some(Row::DosWrite) => None,
-        Some(Row::DosMemAvail) => None,
-        Some(Row::OnSegments(call)) => Some(AskedCall::Segments(call)),
-        Some(Row::OnShared(call)) => Some(AskedCall::Shared(call)),
-        Some(Row::OnRuns(call)) => Some(AskedCall::Runs(call)),
-    }
-}
-
-/// The call by process `pid` of a service that is no call on segments, which comes back to `next`. It sees the segments of its
-/// process by the bus alone, whose four registers are those of `cpu`. No call takes memory.
+/// The call by process `pid` of a service, which comes back to `next`. It sees the segments of its process by the bus alone, whose four
+/// registers are those of `cpu`. A call on segments is asked for, and isn't made yet. No call takes memory.
 #[tactic(auto, using(o2_outer::proofs::Inputs::goes_same))]
 pub fn call<B: Ranges, I: Source, C: Sink, R: Sink>(
     service: u16,
@@ -93,7 +106,6 @@ pub fn call<B: Ranges, I: Source, C: Sink, R: Sink>(
     console: &mut C,
     report: &mut R,
 ) -> Result<Called, Fault>
-    requires plain { IsPlain (number_row service) }
     // What the row of the service does in the boundless machine, whatever is absent; nothing where a segment is missed.
     // However the input is seen: by what it tells, or as a text that the whole of it may be.
     ensures does { (text : Option (List ℕ)) → IsSeenAs text (I.past input.new)
@@ -117,9 +129,14 @@ pub fn call<B: Ranges, I: Source, C: Sink, R: Sink>(
     // It is behind one of the service's pointers that pass; at every other answer what these name is present.
     ensures names { (input : List ℕ) (known : Known) → IsBound (B.view bus.old)
         → TellsNames (B.view bus.old)
-        (λ f. call_names (before_call (boundless f (B.view bus.old)) pid cpu.old input known) (number_row service)) result }
-    // Where one is missed, nothing is changed, taken or put.
-    ensures still { OnMissed result (λ s. (cpu.new ≡ cpu.old) × (B.view bus.new ≡ B.view bus.old) × (input.new ≡ input.old) × (console.new ≡ console.old) × (report.new ≡ report.old)) }
+        (λ f. call_names (before_call (boundless f (B.view bus.old)) pid cpu.old input known) (row_there service)) result }
+    // Where one is missed, or a call on segments is asked for, nothing is changed, taken or put.
+    ensures still { OnUndone result ((cpu.new ≡ cpu.old) × (B.view bus.new ≡ B.view bus.old) × (input.new ≡ input.old) × (console.new ≡ console.old) × (report.new ≡ report.old)) }
+    // The pointers of the call that is asked for are ready, and the names that it passes are behind them.
+    ensures ready { OnAsked result (λ a. are_ready (B.view bus.old) (targets a) ≡ true) }
+    ensures points { OnAsked result (λ a. (f : Filling) (bytes : List ℕ) (known : Known) → IsBound (B.view bus.old)
+        → call_names (before_call (boundless f (B.view bus.old)) pid cpu.old bytes known) (row_there service)
+        ≡ pointed (boundless f (B.view bus.old)) (targets a)) }
     ensures avail { state.new.avail ≡ state.old.avail }
     // The input is touched in a DosRead alone, and the console in a DosWrite alone.
     ensures no_input { service ≢ 3 → input.new ≡ input.old }
@@ -139,19 +156,34 @@ pub fn call<B: Ranges, I: Source, C: Sink, R: Sink>(
         → PartHands (serviced (before_call (boundless f (B.view bus.old)) pid cpu.old bytes known) service next)
         (counts (C.puts console.old) (C.puts console.new) (R.puts report.old) (R.puts report.new) 0) result }
 {
-    let line = &mut state.line;
-    match row_of(service) {
-        None => Ok(Called::Trap(13, 0)),
-        Some(Row::DosExit) => dos_exit(pid, cpu, bus, line, report),
-        Some(Row::DosGetPid) => dos_get_pid(pid, next, cpu, bus, line, report),
-        Some(Row::DosRead) => {
-            let buffer = &mut state.buffer;
-            dos_read(pid, next, cpu, bus, line, buffer, input, report)
+    let Some(row) = row_of(service) else {
+        return Ok(Called::Trap(13, 0));
+    };
+    match gather(row.slots, cpu, bus) {
+        Gathered::Trap(vector) => Ok(Called::Trap(vector, 0)),
+        Gathered::Missed(sel) => Ok(Called::Missed(sel)),
+        Gathered::Good(given) => {
+            let line = &mut state.line;
+            if service == 3 {
+                let buffer = &mut state.buffer;
+                let words = &given.words;
+                return read(
+                    pid, next, &row, words, cpu, bus, line, buffer, input, report,
+                );
+            }
+            serve(
+                service,
+                next,
+                pid,
+                state.avail,
+                &row,
+                &given,
+                cpu,
+                bus,
+                line,
+                console,
+                report,
+            )
         }
-        Some(Row::DosWrite) => dos_write(pid, next, cpu, bus, line, console, report),
-        Some(Row::DosMemAvail) => dos_mem_avail(pid, next, state.avail, cpu, bus, line, report),
-        Some(Row::OnSegments(_)) => unreachable!(),
-        Some(Row::OnShared(_)) => unreachable!(),
-        Some(Row::OnRuns(_)) => unreachable!(),
     }
 }

@@ -1,32 +1,35 @@
 //! The services: calls of the module DOSCALLS through their gates.
 #![tactic(auto)]
 
+mod arguments;
+mod ask;
 mod called;
 mod exit;
 mod gate;
-mod gathering;
-mod huge;
-mod mem_avail;
+mod given;
+mod line;
+mod listed;
 mod moves;
-mod pid;
 mod pointer;
 mod read;
-mod replying;
-mod shape;
-mod sharing;
+mod requests;
+mod row;
+mod selectors;
 mod stack;
 mod state;
+mod table;
 mod text;
 mod told;
-mod transfer;
+mod value;
 mod write;
 
+pub use arguments::Arguments;
 pub use called::Called;
-pub use gate::{asked_call, call};
-pub use gathering::{AskedCall, Gathered, SegmentArguments, gather};
-pub use huge::HugeArguments;
+pub use gate::call;
+pub use line::put_reply;
 pub use moves::{Block, Moves};
-pub use replying::{come_back, give_value, put_reply};
-pub use sharing::SharedArguments;
+pub use requests::{HugeArguments, SegmentArguments, SharedArguments};
+pub use selectors::{Selectors, selectors_of};
 pub use state::State;
 pub use text::TextArgument;
+pub use value::{come_back, give_value};

@@ -1,9 +1,9 @@
 // Ranges behind the pointers that a call is given.
-ghost use Rattle.std.specs.Prelude.{◌≡◌, ◌+◌, ◌==◌, ◌∷◌, [], ℕ, Bool, true, false, length};
+ghost use Rattle.std.specs.Prelude.{◌≡◌, ◌+◌, ◌≤◌, ◌==◌, ℕ, Bool, true, false, length};
 ghost use Rattle.o2_isa.specs.View.{Filling, is_readable, is_writable, whole, found};
 ghost use Rattle.o2_isa.specs.Pointers.{is_ready, range_of, put_at_pointer, KeepsAllButBytes};
 ghost use Rattle.o2_bus.specs.Writes.{WritesHeld};
-ghost use Rattle.o2_gate.specs.Pointed.{Tells, pointer, writes_to, lies_within, allows};
+ghost use Rattle.o2_gate.specs.Pointed.{Tells, only, pointer, writes_to, lies_within, allows};
 
 use o2_base::Selector;
 use o2_bus::{Bus, Ranges};
@@ -34,17 +34,19 @@ fn names_writable<B: Bus>(bus: &B, sel: Selector) -> bool
 
 /// Whether a range lies in the segment that a selector names, by its size.
 #[tactic(auto, unfolding(o2_isa::specs::View::size_at), using(crate::proofs::Access::size_tells, crate::proofs::Access::no_size))]
-fn is_within<B: Bus>(bus: &B, sel: Selector, offset: u16, count: u16) -> bool
+fn is_within<B: Bus>(bus: &B, sel: Selector, offset: u16, count: u32) -> bool
+    requires { count ≤ 131070 }
     ensures { result ≡ lies_within (B.view bus.now) offset count (found (B.view bus.now) sel.0) }
 {
     match bus.size_of(sel) {
-        Some(size) => offset as u32 + count as u32 <= size,
+        Some(size) => offset as u32 + count <= size,
         None => false,
     }
 }
 
 /// Whether a range lies in the segment that a selector names, which can be written where bytes are to be written.
-fn allows<B: Bus>(bus: &B, writes: bool, sel: Selector, offset: u16, count: u16) -> bool
+fn allows<B: Bus>(bus: &B, writes: bool, sel: Selector, offset: u16, count: u32) -> bool
+    requires { count ≤ 131070 }
     ensures { result ≡ allows writes (B.view bus.now) sel.0 offset count }
 {
     (!writes || names_writable(bus, sel)) && is_within(bus, sel, offset, count)
@@ -52,8 +54,9 @@ fn allows<B: Bus>(bus: &B, writes: bool, sel: Selector, offset: u16, count: u16)
 
 /// Tests a pointer to bytes that are read, or written: its selector by the rules for loading ES, which a null one doesn't pass;
 /// then that the segment is present; then its range, and the right to write. One of no bytes is not looked at.
-pub fn test<B: Bus>(bus: &mut B, writes: bool, selector: u16, offset: u16, count: u16) -> Pointed
-    ensures tells { Tells (B.view bus.old) (pointer writes selector offset count ∷ []) result }
+pub fn test<B: Bus>(bus: &mut B, writes: bool, selector: u16, offset: u16, count: u32) -> Pointed
+    requires { count ≤ 131070 }
+    ensures tells { Tells (B.view bus.old) (only (pointer writes selector offset count)) result }
     ensures same { B.view bus.new ≡ B.view bus.old }
 {
     if count == 0 {

@@ -3,8 +3,8 @@ ghost use Rattle.std.specs.Prelude.{◌≡◌, ◌-◌, ◌<◌, ◌≤◌, ◌+
 ghost use Rattle.std.specs.Option.{IfNone};
 ghost use Rattle.o2_isa.specs.View.{size_at};
 ghost use Rattle.o2_world.specs.SharedNames.{before_zero, name_by};
-ghost use Rattle.o2_gate.specs.SharedReplies.{Reads, ReadsBoth, text_of};
-ghost use Rattle.o2_gate.specs.Texts.{IsCutOff, IsTextOf, counted};
+ghost use Rattle.o2_gate.specs.Given.{ReadsText};
+ghost use Rattle.o2_gate.specs.Texts.{IsCutOff, IsTextOf, counted, text_of};
 
 use crate::pointer::{Pointed, range, test};
 use o2_base::Selector;
@@ -17,8 +17,6 @@ const LOOKED_AT: u32 = 129;
 /// is one, these.
 #[derive(Clone, Copy, Debug, PartialEq, Eq)]
 pub struct TextArgument {
-    pub selector: u16,
-    pub offset: u16,
     pub bytes: [u8; 129],
 }
 
@@ -104,44 +102,18 @@ fn count_from<B: Bus>(bus: &B, sel: Selector, offset: u16) -> u16
 
 /// Reads the text behind a pointer.
 pub(crate) fn read_text<B: Ranges>(bus: &mut B, selector: u16, offset: u16) -> ReadText
-    ensures reads { Reads (B.view bus.old) selector offset result }
+    ensures reads { ReadsText (B.view bus.old) selector offset result }
     ensures same { B.view bus.new ≡ B.view bus.old }
 {
     match test(bus, false, selector, offset, 1) {
         Pointed::Good => {
             let count = count_from(bus, Selector(selector), offset);
             match text_in(range(bus, selector, offset, count)) {
-                Some(bytes) => ReadText::Good(TextArgument {
-                    selector,
-                    offset,
-                    bytes,
-                }),
+                Some(bytes) => ReadText::Good(TextArgument { bytes }),
                 None => ReadText::Bad,
             }
         }
         Pointed::Bad => ReadText::Bad,
         Pointed::Missed(sel) => ReadText::Missed(sel),
-    }
-}
-
-/// Reads the text behind a pointer, and then tests another pointer, to a word that will be written.
-pub(crate) fn read_both<B: Ranges>(
-    bus: &mut B,
-    selector: u16,
-    offset: u16,
-    to_selector: u16,
-    to_offset: u16,
-) -> ReadText
-    ensures reads { ReadsBoth (B.view bus.old) selector offset to_selector to_offset result }
-    ensures same { B.view bus.new ≡ B.view bus.old }
-{
-    match read_text(bus, selector, offset) {
-        ReadText::Good(text) => match test(bus, true, to_selector, to_offset, 2) {
-            Pointed::Good => ReadText::Good(text),
-            Pointed::Bad => ReadText::Bad,
-            Pointed::Missed(sel) => ReadText::Missed(sel),
-        },
-        ReadText::Bad => ReadText::Bad,
-        ReadText::Missed(sel) => ReadText::Missed(sel),
     }
 }

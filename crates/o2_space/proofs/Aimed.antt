@@ -1,11 +1,11 @@
 -- The pointer of a call on segments goes on to be good behind what the call changes, and its segment stays in memory.
-use Rattle.std.proofs.Common.{◌≡◌, ◌++◌, ◌∷◌, [], ◌⊎◌, inl, inr, ℕ, ◌+◌, ◌/◌, ◌==◌, ◌&&◌, ◌||◌, nat_le, Bool, true, false, cond, length, Option, Some, None, IsSome, is_some, ap, sym, ◌∙◌, refl, subst, arith}
+use Rattle.std.proofs.Common.{◌≡◌, List, ◌∷◌, [], ◌⊎◌, inl, inr, ℕ, ◌+◌, ◌/◌, ◌==◌, ◌&&◌, ◌||◌, nat_le, Bool, true, false, cond, length, Option, Some, None, IsSome, is_some, ap, sym, ◌∙◌, refl, subst, arith}
 use Rattle.std.specs.Prelude.{option_map}
 use Rattle.std.proofs.lemmas.Bool.{false≢true}
 use Rattle.o2_phys.proofs.Parts.{length-part}
 use Rattle.o2_isa.specs.declared.cpu.Cpu.{Cpu}
 use Rattle.o2_isa.specs.Pointers.{has_present_range, is_ready}
-use Rattle.o2_isa.specs.View.{Hold, bound_in, is_local, is_null, is_readable, is_writable}
+use Rattle.o2_isa.specs.View.{Hold, bound_in, is_local, is_null}
 use Rattle.o2_regions.specs.declared.held.Held.{Held}
 use Rattle.o2_regions.specs.Maps.{Maps, held_at}
 use Rattle.o2_entries.specs.Tables.{slot_at}
@@ -20,18 +20,21 @@ use Rattle.o2_service.specs.Told.{IsHeldWell}
 use Rattle.o2_place.specs.declared.seg_id.SegId.{SegId}
 use Rattle.o2_shared.specs.Shares.{StillHolds}
 use Rattle.o2_calls.proofs.SharedOver.{keeps_still}
-use Rattle.o2_gate.specs.declared.huge.HugeArguments.TheVariants as huge
-use Rattle.o2_gate.specs.declared.sharing.SharedArguments.TheVariants.{Name, Share, Give, Get}
-use Rattle.o2_gate.specs.declared.text.TextArgument.{TextArgument}
-use Rattle.o2_gate.specs.SharedReplies.{text_target}
+use Rattle.o2_gate.specs.declared.requests.HugeArguments.TheVariants as huge
 use Rattle.o2_ends.proofs.Letting.{live_id}
 use Rattle.o2_segs.specs.Limits.{KeepsEntries}
-use Rattle.o2_gate.specs.declared.gathering.SegmentArguments.{SegmentArguments}
-use Rattle.o2_gate.specs.declared.gathering.SegmentArguments.TheVariants.{Alloc, Realloc, Free, Size, Lock, Unlock, Alias, Shared, Huge}
-use Rattle.o2_gate.specs.Gathers.{targets}
-use Rattle.o2_gate.specs.Pointed.{are_ready, pointer}
+use Rattle.o2_gate.specs.declared.requests.SegmentArguments.{SegmentArguments}
+use Rattle.o2_gate.specs.declared.requests.SegmentArguments.TheVariants.{Alloc, Realloc, Free, Size, Lock, Unlock, Alias, Shared, Huge}
+use Rattle.o2_gate.specs.declared.arguments.Arguments.{Arguments}
+use Rattle.o2_gate.specs.Given.{word_in}
+use Rattle.o2_gate.specs.Requests.{request_of}
+use Rattle.o2_gate.specs.Rows.{slots_by}
+use Rattle.o2_gate.specs.Targets.{looked_in, target_in, targets}
+use Rattle.o2_world.specs.Calls.{row_of}
+use Rattle.o2_gate.specs.Pointed.{are_ready}
 use Rattle.o2_calls.specs.Stops.{LeavesEntries, LeavesHolds}
-use Rattle.o2_stepping.specs.Rooms.{aimed_in, pair_of}
+use Rattle.o2_world.specs.Slots.{Pointer}
+use Rattle.o2_stepping.specs.Rooms.{aimed_in, pair_of, selectors_of, under_all}
 use Rattle.o2_stepping.proofs.Bringing.{needs_both}
 use Rattle.o2_stepping.proofs.Named.{one_of, or_back, or_front}
 use Rattle.o2_stepping.proofs.Rounds.{live_more, live_pair}
@@ -48,6 +51,9 @@ right_of false b e = absurd (false≢true e)
 
 all_of : (a b c : Bool) → a ≡ true → b ≡ true → c ≡ true → (a && (b && c)) ≡ true
 all_of a b c e f g = rw (e, f, g) refl
+
+both_true : (a b : Bool) → a ≡ true → b ≡ true → (a && b) ≡ true
+both_true a b e f = rw (e, f) refl
 
 none_some : {X : Type 0} {x : X} → None ≡ Some x → ⊥
 none_some e = cc
@@ -77,6 +83,35 @@ long u inside k some = go (place_of u k) refl some
     go : (o : Option (ℕ × ℕ)) → place_of u k ≡ o → is_some o ≡ true → length (bytes_from u.memory o (entry u k).size) ≡ (entry u k).size
     go None e x = absurd (false≢true x)
     go (Some r) e x = length-part u.memory r.0 (entry u k).size (inside.within k r.0 r.1 e)
+
+-- A call without a pointer, or one that leaves all that is held and all that lives.
+
+pub record LeavesAll (x : SegmentArguments) (m n : Maps) (s t : Shelf) : Type 0 where
+  pub holds : LeavesHolds x m n → StillHolds m n
+  pub entries : LeavesEntries x s t → KeepsEntries s t
+
+pub leaves_aimed : (a : Arguments) (m n : Maps) (s t : Shelf) → (targets a ≡ []) ⊎ LeavesAll a.request m n s t
+unfolding row_of
+leaves_aimed a m n s t = go a.request a.service a.same
+  where
+    Aims : SegmentArguments → ℕ → List Pointer
+    Aims x service = target_in (slots_by (row_of service)) (looked_in x) (word_in a.words)
+
+    nowhere : (x : SegmentArguments) (service number : ℕ) → service ≡ number → Aims x number ≡ [] → Aims x service ≡ []
+    nowhere x service number same none = ap (Aims x) same ∙ none
+
+    go : (x : SegmentArguments) (service : ℕ) → service ≡ (request_of x).service → (Aims x service ≡ []) ⊎ LeavesAll x m n s t
+    go (Alloc size flags) service same = inr (record { holds = keeps_still m n; entries = λ e. e })
+    go (Realloc size z) service same = inl (nowhere (Realloc size z) service 6 same refl)
+    go (Free z) service same = inl (nowhere (Free z) service 7 same refl)
+    go (Size y) service same = inr (record { holds = keeps_still m n; entries = λ e. e })
+    go (Lock z) service same = inl (nowhere (Lock z) service 9 same refl)
+    go (Unlock z) service same = inl (nowhere (Unlock z) service 10 same refl)
+    go (Alias y) service same = inr (record { holds = keeps_still m n; entries = λ e. e })
+    go (Shared x) service same = inr (record { holds = λ h. h; entries = λ e. e })
+    go (Huge (huge.Alloc segs part most flags)) service same = inr (record { holds = keeps_still m n; entries = λ e. e })
+    go (Huge (huge.Realloc segs part z)) service same = inl (nowhere (Huge (huge.Realloc segs part z)) service 17 same refl)
+    go (Huge huge.Shift) service same = inr (record { holds = keeps_still m n; entries = λ e. e })
 
 module _ (s t : Shelf) (m n : Maps) (pid : ℕ) (well : IsHeldWell s m) (named : AreNamed s m) (now : AreNamed t n) (inside : AreInside s) (within : AreInside t) where
   module _ (z : ℕ) (holds : StillHolds m n) (entries : KeepsEntries s t) (stays : (k : ℕ) → needs (pair_of (held_under m pid z)) k ≡ true → IsSome (slot_at t.entries k) → IsSome (place_of s k) → IsSome (place_of t k)) where
@@ -147,74 +182,50 @@ module _ (s t : Shelf) (m n : Maps) (pid : ℕ) (well : IsHeldWell s m) (named :
             or_back (c == 0) (has_present_range test (seen t n pid b) o c (bound_in (hold_in n pid) z))
             (by (held_under m pid z) refl (subst (λ (q : Option Hold). has_present_range test (seen s m pid a) o c q ≡ true) (bound_is m pid z) y))
 
-  -- that of a text, and that of a word
-  two_kept : (x : TextArgument) (z o : ℕ) (a b : Cpu) → StillHolds m n → KeepsEntries s t
-      → ((k : ℕ) → needs (pair_of (held_under m pid x.selector) ++ pair_of (held_under m pid z)) k ≡ true → IsSome (slot_at t.entries k) → IsSome (place_of s k) → IsSome (place_of t k))
-      → are_ready (seen s m pid a) (text_target x ∷ pointer true z o 2 ∷ []) ≡ true → are_ready (seen t n pid b) (text_target x ∷ pointer true z o 2 ∷ []) ≡ true
-  two_kept x z o a b holds entries stays ready =
-      let first = pair_of (held_under m pid x.selector) in
-      let second = pair_of (held_under m pid z) in
-      let count = (text_target x).count in
-      all_of (is_ready is_readable (seen t n pid b) x.selector x.offset count) (is_ready is_writable (seen t n pid b) z o 2) true
-      (pointer_kept x.selector holds entries (λ k need. stays k (needs_both first second k ∙ or_front (needs first k) (needs second k) need)) is_readable a b x.offset count
-      (left_of (is_ready is_readable (seen s m pid a) x.selector x.offset count) (is_ready is_writable (seen s m pid a) z o 2 && true) ready))
-      (pointer_kept z holds entries (λ k need. stays k (needs_both first second k ∙ or_back (needs first k) (needs second k) need)) is_writable a b o 2
-      (left_of (is_ready is_writable (seen s m pid a) z o 2) true (right_of (is_ready is_readable (seen s m pid a) x.selector x.offset count) (is_ready is_writable (seen s m pid a) z o 2 && true) ready)))
-      refl
+  -- those of all pointers
+  pointers_kept : (ps : List Pointer) (a b : Cpu) → StillHolds m n → KeepsEntries s t
+      → ((k : ℕ) → needs (under_all m pid (selectors_of ps)) k ≡ true → IsSome (slot_at t.entries k) → IsSome (place_of s k) → IsSome (place_of t k))
+      → are_ready (seen s m pid a) ps ≡ true → are_ready (seen t n pid b) ps ≡ true
+  pointers_kept [] a b holds entries stays ready = refl
+  pointers_kept (p ∷ ps) a b holds entries stays ready =
+      let first = pair_of (held_under m pid p.selector) in
+      let later = under_all m pid (selectors_of ps) in
+      let now = is_ready p.good (seen s m pid a) p.selector p.offset p.count in
+      both_true (is_ready p.good (seen t n pid b) p.selector p.offset p.count) (are_ready (seen t n pid b) ps)
+      (pointer_kept p.selector holds entries (λ k need. stays k (needs_both first later k ∙ or_front (needs first k) (needs later k) need)) p.good a b p.offset p.count
+      (left_of now (are_ready (seen s m pid a) ps) ready))
+      (pointers_kept ps a b holds entries (λ k need. stays k (needs_both first later k ∙ or_back (needs first k) (needs later k) need)) (right_of now (are_ready (seen s m pid a) ps) ready))
 
-  -- by the arguments of the call
-  pub aimed_kept : (x : SegmentArguments) (a b : Cpu) → LeavesHolds x m n → LeavesEntries x s t
+  -- a call with a pointer leaves what is held, and what lives
+  pub aimed_kept : (x : Arguments) (a b : Cpu) → LeavesHolds x.request m n → LeavesEntries x.request s t
       → ((k : ℕ) → needs (aimed_in m pid x) k ≡ true → IsSome (slot_at t.entries k) → IsSome (place_of s k) → IsSome (place_of t k))
       → are_ready (seen s m pid a) (targets x) ≡ true → are_ready (seen t n pid b) (targets x) ≡ true
-  aimed_kept (Alloc size z o flags) a b holds entries stays ready =
-      all_of (is_ready is_writable (seen t n pid b) z o 2) true true (pointer_kept z (keeps_still m n holds) entries stays is_writable a b o 2 (left_of (is_ready is_writable (seen s m pid a) z o 2) true ready)) refl refl
-  aimed_kept (Realloc size z) a b holds entries stays ready = refl
-  aimed_kept (Free z) a b holds entries stays ready = refl
-  aimed_kept (Size y z o) a b holds entries stays ready =
-      all_of (is_ready is_writable (seen t n pid b) z o 4) true true (pointer_kept z (keeps_still m n holds) entries stays is_writable a b o 4 (left_of (is_ready is_writable (seen s m pid a) z o 4) true ready)) refl refl
-  aimed_kept (Lock z) a b holds entries stays ready = refl
-  aimed_kept (Unlock z) a b holds entries stays ready = refl
-  aimed_kept (Alias y z o) a b holds entries stays ready =
-      all_of (is_ready is_writable (seen t n pid b) z o 2) true true (pointer_kept z (keeps_still m n holds) entries stays is_writable a b o 2 (left_of (is_ready is_writable (seen s m pid a) z o 2) true ready)) refl refl
-  aimed_kept (Shared (Name size x z o)) a b holds entries stays ready = two_kept x z o a b holds entries stays ready
-  aimed_kept (Shared (Share x z o)) a b holds entries stays ready = two_kept x z o a b holds entries stays ready
-  aimed_kept (Shared (Give y to z o)) a b holds entries stays ready =
-      all_of (is_ready is_writable (seen t n pid b) z o 2) true true (pointer_kept z holds entries stays is_writable a b o 2 (left_of (is_ready is_writable (seen s m pid a) z o 2) true ready)) refl refl
-  aimed_kept (Shared (Get z)) a b holds entries stays ready = refl
-  aimed_kept (Huge (huge.Alloc segs part z o most flags)) a b holds entries stays ready =
-      all_of (is_ready is_writable (seen t n pid b) z o 2) true true (pointer_kept z (keeps_still m n holds) entries stays is_writable a b o 2 (left_of (is_ready is_writable (seen s m pid a) z o 2) true ready)) refl refl
-  aimed_kept (Huge (huge.Realloc segs part z)) a b holds entries stays ready = refl
-  aimed_kept (Huge (huge.Shift z o)) a b holds entries stays ready =
-      all_of (is_ready is_writable (seen t n pid b) z o 2) true true (pointer_kept z (keeps_still m n holds) entries stays is_writable a b o 2 (left_of (is_ready is_writable (seen s m pid a) z o 2) true ready)) refl refl
+  aimed_kept x a b holds entries stays ready = go (leaves_aimed x m n s t)
+    where
+      go : (targets x ≡ []) ⊎ LeavesAll x.request m n s t → are_ready (seen t n pid b) (targets x) ≡ true
+      go (inl none) = ap (are_ready (seen t n pid b)) none
+      go (inr all) = pointers_kept (targets x) a b (all.holds holds) (all.entries entries) stays ready
 
 -- What a ready pointer names is held.
 
-pub held_by_ready : (s : Shelf) (m : Maps) (pid : ℕ) (a : Cpu) (z o c : ℕ) → (c == 0) ≡ false → is_ready is_writable (seen s m pid a) z o c ≡ true → (h : Held) × (held_under m pid z ≡ Some h)
+pub held_by_ready : (test : ℕ → Bool) (s : Shelf) (m : Maps) (pid : ℕ) (a : Cpu) (z o c : ℕ) → (c == 0) ≡ false → is_ready test (seen s m pid a) z o c ≡ true
+    → (h : Held) × (held_under m pid z ≡ Some h)
 unfolding is_ready seen_with
-held_by_ready s m pid a z o c some x = go (one_of (c == 0) (has_present_range is_writable (seen s m pid a) o c (bound_in (hold_in m pid) z)) x)
+held_by_ready test s m pid a z o c some x = go (one_of (c == 0) (has_present_range test (seen s m pid a) o c (bound_in (hold_in m pid) z)) x)
   where
-    by : (q : Option Held) → held_under m pid z ≡ q → has_present_range is_writable (seen s m pid a) o c (option_map (hold_of m pid (z / 8)) q) ≡ true → (h : Held) × (held_under m pid z ≡ Some h)
+    by : (q : Option Held) → held_under m pid z ≡ q → has_present_range test (seen s m pid a) o c (option_map (hold_of m pid (z / 8)) q) ≡ true → (h : Held) × (held_under m pid z ≡ Some h)
     by None e y = absurd (false≢true y)
     by (Some h) e y = (h, e)
 
-    go : ((c == 0) ≡ true) ⊎ (has_present_range is_writable (seen s m pid a) o c (bound_in (hold_in m pid) z) ≡ true) → (h : Held) × (held_under m pid z ≡ Some h)
+    go : ((c == 0) ≡ true) ⊎ (has_present_range test (seen s m pid a) o c (bound_in (hold_in m pid) z) ≡ true) → (h : Held) × (held_under m pid z ≡ Some h)
     go (inl e) = absurd (false≢true (sym some ∙ e))
-    go (inr y) = by (held_under m pid z) refl (subst (λ (q : Option Hold). has_present_range is_writable (seen s m pid a) o c q ≡ true) (bound_is m pid z) y)
+    go (inr y) = by (held_under m pid z) refl (subst (λ (q : Option Hold). has_present_range test (seen s m pid a) o c q ≡ true) (bound_is m pid z) y)
 
 -- What a call keeps in memory lives.
 
-pub live_aimed : (s : Shelf) (m : Maps) (pid : ℕ) (a : SegmentArguments) → IsHeldWell s m → AreLive s (aimed_in m pid a)
-live_aimed s m pid (Alloc size z o flags) well = live_pair s m pid z well
-live_aimed s m pid (Realloc size z) well = record { each = λ i p e. absurd (none_some e) }
-live_aimed s m pid (Free z) well = record { each = λ i p e. absurd (none_some e) }
-live_aimed s m pid (Size y z o) well = live_pair s m pid z well
-live_aimed s m pid (Lock z) well = record { each = λ i p e. absurd (none_some e) }
-live_aimed s m pid (Unlock z) well = record { each = λ i p e. absurd (none_some e) }
-live_aimed s m pid (Alias y z o) well = live_pair s m pid z well
-live_aimed s m pid (Shared (Name size x z o)) well = live_more s (pair_of (held_under m pid x.selector)) (pair_of (held_under m pid z)) (live_pair s m pid x.selector well) (live_pair s m pid z well)
-live_aimed s m pid (Shared (Share x z o)) well = live_more s (pair_of (held_under m pid x.selector)) (pair_of (held_under m pid z)) (live_pair s m pid x.selector well) (live_pair s m pid z well)
-live_aimed s m pid (Shared (Give y to z o)) well = live_pair s m pid z well
-live_aimed s m pid (Shared (Get z)) well = record { each = λ i p e. absurd (none_some e) }
-live_aimed s m pid (Huge (huge.Alloc segs part z o most flags)) well = live_pair s m pid z well
-live_aimed s m pid (Huge (huge.Realloc segs part z)) well = record { each = λ i p e. absurd (none_some e) }
-live_aimed s m pid (Huge (huge.Shift z o)) well = live_pair s m pid z well
+live_under : (s : Shelf) (m : Maps) (pid : ℕ) (ss : List ℕ) → IsHeldWell s m → AreLive s (under_all m pid ss)
+live_under s m pid [] well = record { each = λ i p e. absurd (none_some e) }
+live_under s m pid (z ∷ ss) well = live_more s (pair_of (held_under m pid z)) (under_all m pid ss) (live_pair s m pid z well) (live_under s m pid ss well)
+
+pub live_aimed : (s : Shelf) (m : Maps) (pid : ℕ) (a : Arguments) → IsHeldWell s m → AreLive s (aimed_in m pid a)
+live_aimed s m pid a well = live_under s m pid (selectors_of (targets a)) well

@@ -6,7 +6,7 @@ use Rattle.o2_isa.specs.View.{bound_registers}
 use Rattle.o2_regions.specs.Maps.{Maps}
 use Rattle.o2_segbus.specs.Seen.{hold_in}
 use Rattle.o2_store.specs.Shelf.{Shelf}
-use Rattle.o2_gate.specs.declared.gathering.SegmentArguments.{SegmentArguments}
+use Rattle.o2_gate.specs.declared.arguments.Arguments.{Arguments}
 use Rattle.o2_run.specs.declared.fault.Fault.{Fault}
 use Rattle.o2_run.specs.declared.fault.Fault.TheVariants as fault
 use Rattle.o2_run.specs.declared.steps.Stop.TheVariants as stop
@@ -54,11 +54,11 @@ module _ (z : Stepped) (ran : Ran) (is : z ≡ stepped.Ran ran) where
   pub ran_cause : (sink input : Type 0) → SteppedFor sink input (Ok z) → ran.whole ≡ false → sink
   ran_cause sink input h = subst (λ (x : Stepped). SteppedFor sink input (Ok x)) is h
 
-module _ (z : Stepped) (a : SegmentArguments) (next : ℕ) (is : z ≡ stepped.Asked a next) where
+module _ (z : Stepped) (a : Arguments) (next : ℕ) (is : z ≡ stepped.Asked a next) where
   pub asked_between : (b : Before) (w : World) (cpu : Cpu) (p : Parts) (i j c d r q : Option (List ℕ)) → Steps b w cpu p i j c d r q (Ok z) → IsAskedFor b w a next cpu p i j c d r q
   asked_between b w cpu p i j c d r q h = subst (λ (x : Stepped). Steps b w cpu p i j c d r q (Ok x)) is h
 
-  pub asked_at : (P : SegmentArguments → Type 0) → OnAsks (Ok z) P → P a
+  pub asked_at : (P : Arguments → Type 0) → OnAsks (Ok z) P → P a
   asked_at P h = subst (λ (x : Stepped). OnAsks (Ok x) P) is h
 
   pub asked_room : (P : Cpu → Type 0) (done asked : Cpu) → OnStep (Ok z) P done asked → P asked

@@ -21,10 +21,11 @@ use Rattle.o2_world.specs.Rulings.{Ruling, full_size}
 use Rattle.o2_world.specs.Run.{next_dispatch}
 use Rattle.o2_world.specs.Tied.{IsSound}
 use Rattle.o2_world.specs.World.{Process, Segment, Setting, World, is_live}
-use Rattle.o2_gate.specs.declared.gathering.SegmentArguments.{SegmentArguments}
-use Rattle.o2_gate.specs.declared.gathering.SegmentArguments.TheVariants.{Alloc, Realloc, Free, Size, Lock, Unlock, Alias, Shared, Huge}
-use Rattle.o2_gate.specs.declared.huge.HugeArguments.TheVariants as huge
-use Rattle.o2_gate.specs.Gathers.{targets}
+use Rattle.o2_gate.specs.declared.requests.SegmentArguments.{SegmentArguments}
+use Rattle.o2_gate.specs.declared.arguments.Arguments.{Arguments}
+use Rattle.o2_gate.specs.declared.requests.SegmentArguments.TheVariants.{Alloc, Realloc, Free, Size, Lock, Unlock, Alias, Shared, Huge}
+use Rattle.o2_gate.specs.declared.requests.HugeArguments.TheVariants as huge
+use Rattle.o2_gate.specs.Targets.{targets}
 use Rattle.o2_gate.specs.Pointed.{are_ready}
 use Rattle.o2_run.specs.Room.{is_locked, larger, live_load as world_live, load_between, load_next, of_both, room, room_between, seated, size_of, swap_load, touched}
 use Rattle.o2_run.specs.Stops.{IsSwapFull}
@@ -51,20 +52,20 @@ HasNoError (Huge y) r = Unit {0}
 HasNoError y r = r.error ≡ 0
 
 no_error : (y : SegmentArguments) (r : Ruling) → r.error ≡ 0 → HasNoError y r
-no_error (Alloc size z o flags) r none = none
+no_error (Alloc size flags) r none = none
 no_error (Realloc size z) r none = none
 no_error (Free z) r none = none
-no_error (Size q z o) r none = none
+no_error (Size q) r none = none
 no_error (Lock z) r none = none
 no_error (Unlock z) r none = none
-no_error (Alias q z o) r none = none
+no_error (Alias q) r none = none
 no_error (Shared q) r none = none
 no_error (Huge q) r none = tt
 
 same_key : (k key : ℕ) (f : ℕ → ℕ) → (k == key) ≡ true → f k ≤ f key
 same_key k key f e = (let q = ap f (eqb-true k key e) in omega (arith, q))
 
-module _ (p : Parts) (s : Setting) (w : World) (x : Process) (next : IsNext p s w x) (live : is_live x.state ≡ true) (sound : IsSound w) (a : SegmentArguments) (following : ℕ)
+module _ (p : Parts) (s : Setting) (w : World) (x : Process) (next : IsNext p s w x) (live : is_live x.state ≡ true) (sound : IsSound w) (a : Arguments) (following : ℕ)
     (call : IsCallOf (next_start s w x) a following) where
   abbrev pid : ℕ
   pid = (next_dispatch s w).current
@@ -80,7 +81,7 @@ module _ (p : Parts) (s : Setting) (w : World) (x : Process) (next : IsNext p s 
 
   -- Room.
 
-  module _ (c : Cpu) (same : c ≡ x.cpu) (ready : are_ready (seen p.shelf p.maps pid c) (targets a) ≡ true) (stops : MayStop a) where
+  module _ (c : Cpu) (same : c ≡ x.cpu) (ready : are_ready (seen p.shelf p.maps pid c) (targets a) ≡ true) (stops : MayStop a.request) where
     abbrev kept : List (SegId × ℕ)
     kept = seated_in p.maps pid c ++ aimed_in p.maps pid a
 
@@ -134,12 +135,12 @@ module _ (p : Parts) (s : Setting) (w : World) (x : Process) (next : IsNext p s 
         or_back (is_in n wants) _ (or_front (is_locked (get w.names n)) (is_locked (get behind n)) ((facts p s w x next live sound a following call n k at).1 ∙ locked))
     counted n k at (inr named) = or_front (is_in n wants) _ (named_wanted n k at named)
 
-    lacks_for : (z : SegmentArguments) → a ≡ z → (ruling_of z (known_of s w) pid x.cpu).error ≡ 0 → MayStop z → LacksRoom z p.shelf p.maps pid (segments_of kept)
+    lacks_for : (z : SegmentArguments) → a.request ≡ z → (ruling_of z (known_of s w) pid x.cpu).error ≡ 0 → MayStop z → LacksRoom z p.shelf p.maps pid (segments_of kept)
         → LacksRun z p.shelf (known_of s w) pid x.cpu (segments_of kept) NoRoom → s.memory < room s w
-    lacks_for (Alloc size o f flags) is none may lacks run =
+    lacks_for (Alloc size flags) is none may lacks run =
         let t = lacks.store in
         let id = lacks.id in
-        let made = make_over p s w x next live sound a following call wants stay_weight stays_least size o f flags is none may in
+        let made = make_over p s w x next live sound a following call wants stay_weight stays_least size flags is none may in
         let most =
         new_over p.shelf t id (full_size size) flags lacks.adds (wanted t id.key (segments_of kept)) stay_weight others (rounded (full_size size)) here in
         let whole_size = same_size p.shelf t id (full_size size) flags lacks.adds in
@@ -172,7 +173,7 @@ module _ (p : Parts) (s : Setting) (w : World) (x : Process) (next : IsNext p s 
         (λ k l. sized_least (nat_lt 0 (entry p.shelf k).attr.lock) (k == h.id.key) (named_in p.shelf.entries (segments_of kept) k) (rounded (entry p.shelf k).size) (rounded (full_size size))) in
         more_than (all_wanted_at p.shelf h.id.key (segments_of kept) (full_size size)) both.1 (omega (arith, sized, most))
     lacks_for (Free z) is none may lacks run = absurd lacks
-    lacks_for (Size y z o) is none may lacks run = absurd lacks
+    lacks_for (Size y) is none may lacks run = absurd lacks
     lacks_for (Lock z) is none may lacks run =
         let l = lock_over p s w x next live sound a following call wants stay_weight stays_least z is none in
         let h = l.1 in
@@ -184,9 +185,9 @@ module _ (p : Parts) (s : Setting) (w : World) (x : Process) (next : IsNext p s 
         let below = l.2 in
         more_than (all_wanted p.shelf key (segments_of kept)) more (omega (arith, below, most))
     lacks_for (Unlock z) is none may lacks run = absurd lacks
-    lacks_for (Alias y z o) is none may lacks run = absurd lacks
+    lacks_for (Alias y) is none may lacks run = absurd lacks
     lacks_for (Shared y) is none may lacks run = absurd lacks
-    lacks_for (Huge (huge.Alloc segs part z o most flags)) is none may lacks run = absurd may
+    lacks_for (Huge (huge.Alloc segs part most flags)) is none may lacks run = absurd may
     lacks_for (Huge (huge.Realloc segs part z)) is none may lacks run =
         let key = run.id.key in
         let both = run.holds in
@@ -197,10 +198,10 @@ module _ (p : Parts) (s : Setting) (w : World) (x : Process) (next : IsNext p s 
         over-le (wanted_at p.shelf key (segments_of kept) run.size) (λ k. if k == key then rounded run.size else stay_weight k) (length p.shelf.entries)
         (λ k l. sized_least (nat_lt 0 (entry p.shelf k).attr.lock) (k == key) (named_in p.shelf.entries (segments_of kept) k) (rounded (entry p.shelf k).size) (rounded run.size)) in
         more_than (all_wanted_at p.shelf key (segments_of kept) run.size) both.1 (omega (arith, sized, most))
-    lacks_for (Huge (huge.Shift z o)) is none may lacks run = absurd may
+    lacks_for (Huge huge.Shift) is none may lacks run = absurd may
 
-    pub lacks_call : (ruling_of a (known_of s w) pid x.cpu).error ≡ 0 → LacksRoom a p.shelf p.maps pid (segments_of kept) → LacksRun a p.shelf (known_of s w) pid x.cpu (segments_of kept) NoRoom → s.memory < room s w
-    lacks_call none lacks run = lacks_for a refl none stops lacks run
+    pub lacks_call : (ruling_of a.request (known_of s w) pid x.cpu).error ≡ 0 → LacksRoom a.request p.shelf p.maps pid (segments_of kept) → LacksRun a.request p.shelf (known_of s w) pid x.cpu (segments_of kept) NoRoom → s.memory < room s w
+    lacks_call none lacks run = lacks_for a.request refl none stops lacks run
 
   -- Swap: all that lives counts.
 
@@ -229,12 +230,12 @@ module _ (p : Parts) (s : Setting) (w : World) (x : Process) (next : IsNext p s 
       let rooms = load_room w.names behind in
       omega (arith, memory, live_all, rooms, above, below)
 
-  short_for : (z : SegmentArguments) → a ≡ z → HasNoError z (ruling_of z (known_of s w) pid x.cpu) → MayStop z → LacksMemory z p.shelf p.maps pid → LacksRunMemory z p.shelf (known_of s w) pid x.cpu
+  short_for : (z : SegmentArguments) → a.request ≡ z → HasNoError z (ruling_of z (known_of s w) pid x.cpu) → MayStop z → LacksMemory z p.shelf p.maps pid → LacksRunMemory z p.shelf (known_of s w) pid x.cpu
       → s.memory < world_live s w
-  short_for (Alloc size o f flags) is none may lacks run =
+  short_for (Alloc size flags) is none may lacks run =
       let t = lacks.store in
       let id = lacks.id in
-      let made = make_over p s w x next live sound a following call all (memory_load p.shelf) loads_least size o f flags is none may in
+      let made = make_over p s w x next live sound a following call all (memory_load p.shelf) loads_least size flags is none may in
       let most = new_over p.shelf t id (full_size size) flags lacks.adds (memory_load t) (memory_load p.shelf) others (rounded (full_size size)) here in
       let whole_size = same_size p.shelf t id (full_size size) flags lacks.adds in
       let more = lacks.holds in
@@ -254,28 +255,28 @@ module _ (p : Parts) (s : Setting) (w : World) (x : Process) (next : IsNext p s 
       (λ n key. or_front (is_in n all) _ (in_old w.names behind n (there p s w x next live sound a following call n h.id.key key))) in
       short_by (live_load_at p.shelf h.id.key (full_size size)) more sized
   short_for (Free z) is none may lacks run = absurd lacks
-  short_for (Size y z o) is none may lacks run = absurd lacks
+  short_for (Size y) is none may lacks run = absurd lacks
   short_for (Lock z) is none may lacks run =
       (let live_all = live_least p s w next.lawful next.set next.stands in
       let memory = next.set.memory in
       omega (arith, live_all, memory, lacks))
   short_for (Unlock z) is none may lacks run = absurd lacks
-  short_for (Alias y z o) is none may lacks run = absurd lacks
+  short_for (Alias y) is none may lacks run = absurd lacks
   short_for (Shared y) is none may lacks run = absurd lacks
-  short_for (Huge (huge.Alloc segs part z o most flags)) is none may lacks run = absurd may
+  short_for (Huge (huge.Alloc segs part most flags)) is none may lacks run = absurd may
   short_for (Huge (huge.Realloc segs part z)) is none may lacks run =
       let sized =
       run_over p s w x next live sound a following call all (memory_load p.shelf) loads_least (huge.Realloc segs part z) is run.id run.size run.rest run.live run.change
       (λ n key. or_front (is_in n all) _ (in_old w.names behind n (there p s w x next live sound a following call n run.id.key key))) in
       short_by (live_load_at p.shelf run.id.key run.size) run.holds sized
-  short_for (Huge (huge.Shift z o)) is none may lacks run = absurd may
+  short_for (Huge huge.Shift) is none may lacks run = absurd may
 
-  pub short_call : HasNoError a (ruling_of a (known_of s w) pid x.cpu) → MayStop a → LacksMemory a p.shelf p.maps pid → LacksRunMemory a p.shelf (known_of s w) pid x.cpu → s.memory < world_live s w
-  short_call none may lacks run = short_for a refl none may lacks run
+  pub short_call : HasNoError a.request (ruling_of a.request (known_of s w) pid x.cpu) → MayStop a.request → LacksMemory a.request p.shelf p.maps pid → LacksRunMemory a.request p.shelf (known_of s w) pid x.cpu → s.memory < world_live s w
+  short_call none may lacks run = short_for a.request refl none may lacks run
 
-  pub full_call : (ruling_of a (known_of s w) pid x.cpu).error ≡ 0 → MayStop a → LacksSwap a p.shelf p.maps pid → LacksRunMemory a p.shelf (known_of s w) pid x.cpu → IsSwapFull p.device s w
+  pub full_call : (ruling_of a.request (known_of s w) pid x.cpu).error ≡ 0 → MayStop a.request → LacksSwap a.request p.shelf p.maps pid → LacksRunMemory a.request p.shelf (known_of s w) pid x.cpu → IsSwapFull p.device s w
   full_call none may lacks run =
       let blocks = next.set.blocks in
       let load : swap_load w ≡ store_swap p.shelf = swap_is p w.processes w.names w.next_name w.reserved next.lawful next.stands in
       let more = lacks.0 in
-      record { swap = omega (arith, blocks, load, more); memory = short_call (no_error a (ruling_of a (known_of s w) pid x.cpu) none) may lacks.1 run }
+      record { swap = omega (arith, blocks, load, more); memory = short_call (no_error a.request (ruling_of a.request (known_of s w) pid x.cpu) none) may lacks.1 run }

@@ -14,26 +14,29 @@ use Rattle.o2_store.proofs.Tables.{locked_at, within_at}
 use Rattle.o2_segbus.specs.Seen.{hold_in, key_of}
 use Rattle.o2_shared.specs.Shares.{StillHolds}
 use Rattle.o2_calls.proofs.SharedOver.{keeps_still}
-use Rattle.o2_world.specs.Calls.{Before, Effect}
+use Rattle.o2_world.specs.Calls.{Before, Effect, returned}
 use Rattle.o2_world.specs.Changes.{Change, Drops, takes, with_all}
 use Rattle.o2_world.specs.Holders.{process_at}
 use Rattle.o2_world.specs.Known.{Known, held_at, known_of}
 use Rattle.o2_world.specs.Map.{get}
 use Rattle.o2_world.specs.Moves.{AllMoves}
-use Rattle.o2_world.specs.Rulings.{by_load, dropped_indexes, freeing, freeing_of, grants, held_under, in_use, is_gone, is_later, members, refusal}
+use Rattle.o2_world.specs.Rulings.{by_load, freeing, freeing_of, grants, held_under, in_use, is_later, members, refusal}
 use Rattle.o2_world.specs.Run.{changed, next_dispatch, worked, working}
 use Rattle.o2_world.specs.Sound.{HasGoodRegisters, held_of}
 use Rattle.o2_world.specs.Tied.{IsSound}
 use Rattle.o2_world.specs.Views.{holds_in, view_of}
 use Rattle.o2_world.specs.World.{Held, Process, Segment, Setting, World, is_live}
 use Rattle.o2_world.proofs.Numbers.{at_place_of}
-use Rattle.o2_world.proofs.StepMoves.{served_moves}
-use Rattle.o2_gate.specs.declared.gathering.SegmentArguments.{SegmentArguments}
-use Rattle.o2_world.specs.HugeRulings.{huge_reallocation, names_one}
-use Rattle.o2_gate.specs.declared.huge.HugeArguments.{HugeArguments}
-use Rattle.o2_gate.specs.declared.huge.HugeArguments.TheVariants as huge
-use Rattle.o2_gate.specs.declared.gathering.SegmentArguments.TheVariants.{Alloc, Realloc, Free, Size, Lock, Unlock, Alias, Shared, Huge}
-use Rattle.o2_gate.specs.Gathers.{row_for}
+use Rattle.o2_world.specs.Outcomes.{gone_indexes}
+use Rattle.o2_gate.specs.Replies.{words_of}
+use Rattle.o2_world.proofs.StepMoves.{serviced_moves}
+use Rattle.o2_calls.proofs.Shapes.{clears_gone}
+use Rattle.o2_gate.specs.declared.requests.SegmentArguments.{SegmentArguments}
+use Rattle.o2_gate.specs.declared.arguments.Arguments.{Arguments}
+use Rattle.o2_world.specs.HugeRulings.{names_one}
+use Rattle.o2_gate.specs.declared.requests.HugeArguments.{HugeArguments}
+use Rattle.o2_gate.specs.declared.requests.HugeArguments.TheVariants as huge
+use Rattle.o2_gate.specs.declared.requests.SegmentArguments.TheVariants.{Alloc, Realloc, Free, Size, Lock, Unlock, Alias, Shared, Huge}
 use Rattle.o2_run.specs.Room.{Fits, behind, is_locked, need, room, room_between, room_next, seated, seated_in, size_of, untrapped}
 use Rattle.o2_calls.specs.Acts.{ruling_of}
 use Rattle.o2_calls.specs.HugeActs.{huge_ruling}
@@ -81,22 +84,22 @@ record CutsRun (a : SegmentArguments) (k : Known) (n : ℕ) (c : Cpu) : Type 0 w
 -- all other calls leave what is held
 frees_or_keeps : (a : SegmentArguments) (m n : Maps) (k : Known) (number : ℕ) (c : Cpu) → LeavesHolds a m n → LeavesRunHolds a m n k number c
     → ((z : ℕ) × (a ≡ Free z)) ⊎ (CutsRun a k number c ⊎ StillHolds m n)
-frees_or_keeps (Alloc size s o flags) m n k number c h run = inr (inr (keeps_still m n h))
+frees_or_keeps (Alloc size flags) m n k number c h run = inr (inr (keeps_still m n h))
 frees_or_keeps (Realloc size z) m n k number c h run = inr (inr (keeps_still m n h))
 frees_or_keeps (Free z) m n k number c h run = inl (z, refl)
-frees_or_keeps (Size y s o) m n k number c h run = inr (inr (keeps_still m n h))
+frees_or_keeps (Size y) m n k number c h run = inr (inr (keeps_still m n h))
 frees_or_keeps (Lock z) m n k number c h run = inr (inr (keeps_still m n h))
 frees_or_keeps (Unlock z) m n k number c h run = inr (inr (keeps_still m n h))
-frees_or_keeps (Alias y s o) m n k number c h run = inr (inr (keeps_still m n h))
+frees_or_keeps (Alias y) m n k number c h run = inr (inr (keeps_still m n h))
 frees_or_keeps (Shared a) m n k number c h run = inr (inr h)
-frees_or_keeps (Huge (huge.Alloc segs part s o most flags)) m n k number c h run = inr (inr (keeps_still m n h))
+frees_or_keeps (Huge (huge.Alloc segs part most flags)) m n k number c h run = inr (inr (keeps_still m n h))
 frees_or_keeps (Huge (huge.Realloc segs part z)) m n k number c h run = by run
   where
     by : LeavesRunHolds (Huge (huge.Realloc segs part z)) m n k number c
         → ((y : ℕ) × (Huge (huge.Realloc segs part z) ≡ Free y)) ⊎ (CutsRun (Huge (huge.Realloc segs part z)) k number c ⊎ StillHolds m n)
     by (inl keeps) = inr (inr (keeps_still m n keeps))
     by (inr cuts) = inr (inl (record { run = huge.Realloc segs part z; is = refl; takes_holds = cuts }))
-frees_or_keeps (Huge (huge.Shift s o)) m n k number c h run = inr (inr (keeps_still m n h))
+frees_or_keeps (Huge huge.Shift) m n k number c h run = inr (inr (keeps_still m n h))
 
 -- The registers behind a call.
 
@@ -104,34 +107,19 @@ cleared : (t : Bool) (z : ℕ) → ((if t then 0 else z) ≡ z) ⊎ ((if t then 
 cleared true z = inr refl
 cleared false z = inl refl
 
-selectors_stay : (a : SegmentArguments) (b : Before) (next : ℕ) → StaySelectors b.cpu (replied_by a b next).cpu
-selectors_stay (Alloc size s o flags) b next = record { es = inl refl; cs = inl refl; ss = inl refl; ds = inl refl }
-selectors_stay (Realloc size z) b next = record { es = inl refl; cs = inl refl; ss = inl refl; ds = inl refl }
-selectors_stay (Free z) b next =
-    let is : List ℕ = dropped_indexes (freeing b.known b.number z b.cpu).changes in
-    record {
-      es = cleared (is_gone b.known b.number is b.cpu.es) b.cpu.es;
-      cs = inl refl;
-      ss = inl refl;
-      ds = cleared (is_gone b.known b.number is b.cpu.ds) b.cpu.ds;
-    }
-selectors_stay (Size y s o) b next = record { es = inl refl; cs = inl refl; ss = inl refl; ds = inl refl }
-selectors_stay (Lock z) b next = record { es = inl refl; cs = inl refl; ss = inl refl; ds = inl refl }
-selectors_stay (Unlock z) b next = record { es = inl refl; cs = inl refl; ss = inl refl; ds = inl refl }
-selectors_stay (Alias y s o) b next = record { es = inl refl; cs = inl refl; ss = inl refl; ds = inl refl }
-selectors_stay (Shared a) b next = record { es = inl refl; cs = inl refl; ss = inl refl; ds = inl refl }
-selectors_stay (Huge (huge.Alloc segs part s o most flags)) b next = record { es = inl refl; cs = inl refl; ss = inl refl; ds = inl refl }
-selectors_stay (Huge (huge.Realloc segs part z)) b next =
-    let is : List ℕ = dropped_indexes (huge_reallocation b.known b.number segs part z b.cpu).changes in
-    record { es = cleared (names_one b.cpu.es is) b.cpu.es; cs = inl refl; ss = inl refl; ds = cleared (names_one b.cpu.ds is) b.cpu.ds }
-selectors_stay (Huge (huge.Shift s o)) b next = record { es = inl refl; cs = inl refl; ss = inl refl; ds = inl refl }
+-- what is gone leaves DS and ES null
+selectors_stay : (a : Arguments) (b : Before) (next : ℕ) → StaySelectors b.cpu (replied_by a b next).cpu
+selectors_stay a b next =
+    subst (λ (c : Cpu). StaySelectors b.cpu (returned c next (words_of a) (ruling_of a.request b.known b.number b.cpu).error)) (clears_gone a.request b.known b.number b.cpu)
+    (let is : List ℕ = gone_indexes b.known (ruling_of a.request b.known b.number b.cpu).changes in
+    record { es = cleared (names_one b.cpu.es is) b.cpu.es; cs = inl refl; ss = inl refl; ds = cleared (names_one b.cpu.ds is) b.cpu.ds })
 
 lock_above : (k : ℕ) → nat_lt 0 k ≡ true → 0 < k
 lock_above k e = grind arith
 
 -- The next step of a world that is a call.
 
-module _ (p : Parts) (s : Setting) (w : World) (x : Process) (next : IsNext p s w x) (live : is_live x.state ≡ true) (sound : IsSound w) (a : SegmentArguments) (following : ℕ)
+module _ (p : Parts) (s : Setting) (w : World) (x : Process) (next : IsNext p s w x) (live : is_live x.state ≡ true) (sound : IsSound w) (a : Arguments) (following : ℕ)
     (call : IsCallOf (next_start s w x) a following) where
   abbrev pub d : Dispatch
   d = next_dispatch s w
@@ -169,7 +157,7 @@ module _ (p : Parts) (s : Setting) (w : World) (x : Process) (next : IsNext p s 
   world_is = refl
 
   moves : AllMoves b e.cpu e.changes
-  moves = subst (λ (f : Effect). AllMoves b f.cpu f.changes) (call.asks ∙ asked_is b following a) (served_moves (Some (row_for call.call)) b following)
+  moves = subst (λ (f : Effect). AllMoves b f.cpu f.changes) (call.asks ∙ asked_is b following a) (serviced_moves call.service b call.from)
 
   pub sizes : (n : ℕ) → length (e.bytes n) ≡ size_of (get w.names n)
   sizes n = ap (λ (f : Effect). length (f.bytes n)) (sym effect_is) ∙ (untrapped_sizes b n ∙ bytes_long (get w.names n))
@@ -195,14 +183,14 @@ module _ (p : Parts) (s : Setting) (w : World) (x : Process) (next : IsNext p s 
 
   -- a call on a run cuts what it sizes, or none of it
   pub run_sizing : (y : HugeArguments) → IsSizing w.names (huge_ruling y (known_of s w) d.current x.cpu).changes
-  run_sizing (huge.Alloc segs part z o most flags) = allocation_sizing s w d.current segs part most flags
+  run_sizing (huge.Alloc segs part most flags) = allocation_sizing s w d.current segs part most flags
   run_sizing (huge.Realloc segs part z) = reallocation_sizing s w sound.tied next.stands.tidy d.current segs part z x.cpu
-  run_sizing (huge.Shift z o) = Cut tt
+  run_sizing huge.Shift = Cut tt
 
-  pub run_changes_are : (y : HugeArguments) → a ≡ Huge y → e.changes ≡ (huge_ruling y (known_of s w) d.current x.cpu).changes
+  pub run_changes_are : (y : HugeArguments) → a.request ≡ Huge y → e.changes ≡ (huge_ruling y (known_of s w) d.current x.cpu).changes
   run_changes_are y is = ap (λ (r : SegmentArguments). (ruling_of r (known_of s w) d.current x.cpu).changes) is
 
-  cut_run_less : CutsRun a (known_of s w) d.current x.cpu → (n : ℕ) → IsLess (get v.names n) (get w.names n)
+  cut_run_less : CutsRun a.request (known_of s w) d.current x.cpu → (n : ℕ) → IsLess (get v.names n) (get w.names n)
   cut_run_less cuts n =
       subst (λ (q : World). IsLess (get q.names n) (get w.names n)) (sym world_is)
       (subst (λ (xs : List Change). IsLess (get (with_all u xs).names n) (get w.names n)) (sym (run_changes_are cuts.run cuts.is)) (by (run_sizing cuts.run)))
@@ -214,7 +202,7 @@ module _ (p : Parts) (s : Setting) (w : World) (x : Process) (next : IsNext p s 
       by (Cut are) = cut_less w d x e sizes new cs are n
       by (Grown z are) = absurd (false≢true (sym (grown_takes w.names z cs are) ∙ cuts.takes_holds))
 
-  freed_less : (z : ℕ) → a ≡ Free z → (n : ℕ) → IsLess (get v.names n) (get w.names n)
+  freed_less : (z : ℕ) → a.request ≡ Free z → (n : ℕ) → IsLess (get v.names n) (get w.names n)
   freed_less z is n =
       let f = free_changes b.known b.number z b.cpu in
       let cs : e.changes ≡ map (λ (i : ℕ). Drops b.number i 1) f.0 = ap (λ (y : SegmentArguments). (ruling_of y b.known b.number b.cpu).changes) is ∙ f.1 in
@@ -334,14 +322,14 @@ module _ (p : Parts) (s : Setting) (w : World) (x : Process) (next : IsNext p s 
   pub fits_call : (y : Process) → process_at v.processes d.current ≡ Some y → y.cpu ≡ e.cpu
       → (list : List ℕ) → ((n : ℕ) → is_in n (needed_names b) ≡ true → is_in n list ≡ true) → room_in p.shelf list ≤ p.shelf.places.size
       → (q : Parts) → AreLawful q.shelf q.maps → StandsIn q v.processes v.names v.next_name v.reserved → q.shelf.places.size ≡ p.shelf.places.size
-      → (n : Maps) → LeavesHolds a p.maps n → LeavesRunHolds a p.maps n (known_of s w) d.current x.cpu
+      → (n : Maps) → LeavesHolds a.request p.maps n → LeavesRunHolds a.request p.maps n (known_of s w) d.current x.cpu
       → (StillHolds p.maps n → (m k : ℕ) → key_of q.shelf m ≡ Some k → is_in m (needed_names b) ≡ true → IsSome (place_of q.shelf k)) → Fits true s w
-  fits_call y there cpu list among fit q lawful standing same n leaves run here = by (frees_or_keeps a p.maps n (known_of s w) d.current x.cpu leaves run)
+  fits_call y there cpu list among fit q lawful standing same n leaves run here = by (frees_or_keeps a.request p.maps n (known_of s w) d.current x.cpu leaves run)
     where
       before : ((m : ℕ) → IsLess (get v.names m) (get w.names m)) → Fits true s w
       before less = fits_before list (λ m h. among m (wanted y there cpu m h)) less fit
 
-      by : ((z : ℕ) × (a ≡ Free z)) ⊎ (CutsRun a (known_of s w) d.current x.cpu ⊎ StillHolds p.maps n) → Fits true s w
+      by : ((z : ℕ) × (a.request ≡ Free z)) ⊎ (CutsRun a.request (known_of s w) d.current x.cpu ⊎ StillHolds p.maps n) → Fits true s w
       by (inl frees) = before (freed_less frees.0 frees.1)
       by (inr (inl cuts)) = before (cut_run_less cuts)
       by (inr (inr keeps)) = by_names left

@@ -29,9 +29,10 @@ use Rattle.o2_world.specs.Run.{before, changed, next_dispatch}
 use Rattle.o2_world.specs.Tied.{IsSound}
 use Rattle.o2_world.specs.World.{Process, Setting, World, is_live}
 use Rattle.o2_world.proofs.Flags.{live_is}
-use Rattle.o2_gate.specs.declared.gathering.SegmentArguments.{SegmentArguments}
-use Rattle.o2_gate.specs.declared.gathering.SegmentArguments.TheVariants.{Alloc, Realloc, Free, Size, Lock, Unlock, Alias, Shared, Huge}
-use Rattle.o2_gate.specs.Gathers.{asked, targets}
+use Rattle.o2_gate.specs.declared.requests.SegmentArguments.{SegmentArguments}
+use Rattle.o2_gate.specs.declared.arguments.Arguments.{Arguments}
+use Rattle.o2_gate.specs.declared.requests.SegmentArguments.TheVariants.{Alloc, Realloc, Free, Size, Lock, Unlock, Alias, Shared, Huge}
+use Rattle.o2_gate.specs.Targets.{asked, targets}
 use Rattle.o2_gate.specs.Pointed.{are_ready}
 use Rattle.o2_run.specs.Room.{Fits, live_load, room, seated, touched}
 use Rattle.o2_run.specs.Stops.{IsSwapFull}
@@ -56,7 +57,7 @@ use Rattle.o2_space.proofs.Keeps.{ages_need, keeps_for, live_need, need_present,
 use Rattle.o2_space.proofs.Replied.{equal_self, orderly_call, some_running}
 
 -- the step is a call, with exception 1 behind it or without
-effect_of : (b : Before) (a : SegmentArguments) (following : ℕ) → IsCallOf b a following → effect b ≡ single_stepped b (asked a b following)
+effect_of : (b : Before) (a : Arguments) (following : ℕ) → IsCallOf b a following → effect b ≡ single_stepped b (asked a b following)
 unfolding effect
 effect_of b a following call = ap (single_stepped b) (untrapped_asked b a following call)
 
@@ -66,7 +67,7 @@ pub record IsKept (s : Shelf) (m : Maps) (keep : List SegId) (n : Maps) (t u : S
   pub store : KeepsStore t u
   pub maps : KeepsMaps n o
 
-module _ (p : Parts) (s : Setting) (w : World) (x : Process) (next : IsNext p s w x) (live : is_live x.state ≡ true) (sound : IsSound w) (a : SegmentArguments) (following : ℕ)
+module _ (p : Parts) (s : Setting) (w : World) (x : Process) (next : IsNext p s w x) (live : is_live x.state ≡ true) (sound : IsSound w) (a : Arguments) (following : ℕ)
     (call : IsCallOf (next_start s w x) a following)
     (c : Cpu) (same : c ≡ x.cpu) (step : CanStep p.shelf p.maps (next_dispatch s w).current c) (ready : are_ready (seen p.shelf p.maps (next_dispatch s w).current c) (targets a) ≡ true) where
   abbrev d : Dispatch
@@ -105,7 +106,7 @@ module _ (p : Parts) (s : Setting) (w : World) (x : Process) (next : IsNext p s 
   held_still : (n o : Maps) → StillHolds p.maps n → o.held ≡ n.held → (pid i : ℕ) (h : Held) → held_at p.maps pid i ≡ Some h → (k : Held) × (held_at o pid i ≡ Some k) × (k.id ≡ h.id)
   held_still n o keeps held pid i h is = (let x = keeps.held pid i h is in (x.0, ap (λ (l : List (Option Held)). held_at (record n { held = l }) pid i) held ∙ x.1, x.2))
 
-  fits : (keep : List SegId) → keep ≡ segments_of needed → (t : Shelf) (n : Maps) → LeavesHolds a p.maps n → LeavesRunHolds a p.maps n (known_of s w) d.current x.cpu → t.places.size ≡ p.shelf.places.size
+  fits : (keep : List SegId) → keep ≡ segments_of needed → (t : Shelf) (n : Maps) → LeavesHolds a.request p.maps n → LeavesRunHolds a.request p.maps n (known_of s w) d.current x.cpu → t.places.size ≡ p.shelf.places.size
       → (q : Parts) → AreLawful q.shelf q.maps → IsKept p.shelf p.maps keep n t q.shelf q.maps
       → (registers : Cpu) (answer : Answer) → IsCalled s w d.current x a following registers q answer
       → room_in p.shelf (all_names b (bound_registers (hold_in p.maps d.current) b.cpu)) ≤ p.shelf.places.size → Fits true s w
@@ -137,7 +138,7 @@ module _ (p : Parts) (s : Setting) (w : World) (x : Process) (next : IsNext p s 
 -- By the number of the process.
 
 module _ (p : Parts) (s : Setting) (w : World) (x : Process) (lawful : AreLawful p.shelf p.maps) (set : IsSetTo p s) (stands : Stands p w) (live : is_live x.state ≡ true) (sound : IsSound w)
-    (a : SegmentArguments) (following : ℕ) (c : Cpu) (same : c ≡ x.cpu) (keep : List SegId) where
+    (a : Arguments) (following : ℕ) (c : Cpu) (same : c ≡ x.cpu) (keep : List SegId) where
   -- the process is the one whose step is next, and this step is the call
   pub record IsTurn (n : ℕ) : Type 0 where
     pub there : process_at w.processes n ≡ Some x
@@ -149,44 +150,44 @@ module _ (p : Parts) (s : Setting) (w : World) (x : Process) (lawful : AreLawful
   next_of : process_at w.processes (next_dispatch s w).current ≡ Some x → IsNext p s w x
   next_of there = record { lawful = lawful; set = set; stands = stands; chosen = there }
 
-  pub fits_at : (n : ℕ) → (next_dispatch s w).current ≡ n → IsTurn n → (t : Shelf) (m : Maps) → LeavesHolds a p.maps m → LeavesRunHolds a p.maps m (known_of s w) n c → t.places.size ≡ p.shelf.places.size
+  pub fits_at : (n : ℕ) → (next_dispatch s w).current ≡ n → IsTurn n → (t : Shelf) (m : Maps) → LeavesHolds a.request p.maps m → LeavesRunHolds a.request p.maps m (known_of s w) n c → t.places.size ≡ p.shelf.places.size
       → (q : Parts) → AreLawful q.shelf q.maps → IsKept p.shelf p.maps keep m t q.shelf q.maps
       → (registers : Cpu) (answer : Answer) → IsCalled s w n x a following registers q answer
       → room_in p.shelf (all_names (before s w n x) (bound_registers (hold_in p.maps n) (before s w n x).cpu)) ≤ p.shelf.places.size → Fits true s w
   fits_at n chosen =
-      subst (λ (i : ℕ). IsTurn i → (t : Shelf) (m : Maps) → LeavesHolds a p.maps m → LeavesRunHolds a p.maps m (known_of s w) i c → t.places.size ≡ p.shelf.places.size
+      subst (λ (i : ℕ). IsTurn i → (t : Shelf) (m : Maps) → LeavesHolds a.request p.maps m → LeavesRunHolds a.request p.maps m (known_of s w) i c → t.places.size ≡ p.shelf.places.size
       → (q : Parts) → AreLawful q.shelf q.maps → IsKept p.shelf p.maps keep m t q.shelf q.maps
       → (registers : Cpu) (answer : Answer) → IsCalled s w i x a following registers q answer
       → room_in p.shelf (all_names (before s w i x) (bound_registers (hold_in p.maps i) (before s w i x).cpu)) ≤ p.shelf.places.size → Fits true s w) chosen
       (λ turn t m leaves run.
       fits p s w x (next_of turn.there) live sound a following turn.call c same turn.step turn.ready keep turn.keeps t m leaves
-      (subst (λ (r : Cpu). LeavesRunHolds a p.maps m (known_of s w) (next_dispatch s w).current r) same run))
+      (subst (λ (r : Cpu). LeavesRunHolds a.request p.maps m (known_of s w) (next_dispatch s w).current r) same run))
 
-  pub lacks_at : (n : ℕ) → (next_dispatch s w).current ≡ n → IsTurn n → (ruling_of a (known_of s w) n c).error ≡ 0 → MayStop a → LacksRoom a p.shelf p.maps n keep → LacksRun a p.shelf (known_of s w) n c keep NoRoom → s.memory < room s w
+  pub lacks_at : (n : ℕ) → (next_dispatch s w).current ≡ n → IsTurn n → (ruling_of a.request (known_of s w) n c).error ≡ 0 → MayStop a.request → LacksRoom a.request p.shelf p.maps n keep → LacksRun a.request p.shelf (known_of s w) n c keep NoRoom → s.memory < room s w
   lacks_at n chosen =
-      subst (λ (i : ℕ). IsTurn i → (ruling_of a (known_of s w) i c).error ≡ 0 → MayStop a → LacksRoom a p.shelf p.maps i keep → LacksRun a p.shelf (known_of s w) i c keep NoRoom → s.memory < room s w) chosen
+      subst (λ (i : ℕ). IsTurn i → (ruling_of a.request (known_of s w) i c).error ≡ 0 → MayStop a.request → LacksRoom a.request p.shelf p.maps i keep → LacksRun a.request p.shelf (known_of s w) i c keep NoRoom → s.memory < room s w) chosen
       (λ turn none may lacks run.
       lacks_call p s w x (next_of turn.there) live sound a following turn.call c same turn.ready may
-      (subst (λ (r : Cpu). (ruling_of a (known_of s w) (next_dispatch s w).current r).error ≡ 0) same none)
-      (subst (λ (ids : List SegId). LacksRoom a p.shelf p.maps (next_dispatch s w).current ids) turn.keeps lacks)
-      (subst (λ (ids : List SegId). LacksRun a p.shelf (known_of s w) (next_dispatch s w).current x.cpu ids NoRoom) turn.keeps
-      (subst (λ (r : Cpu). LacksRun a p.shelf (known_of s w) (next_dispatch s w).current r keep NoRoom) same run)))
+      (subst (λ (r : Cpu). (ruling_of a.request (known_of s w) (next_dispatch s w).current r).error ≡ 0) same none)
+      (subst (λ (ids : List SegId). LacksRoom a.request p.shelf p.maps (next_dispatch s w).current ids) turn.keeps lacks)
+      (subst (λ (ids : List SegId). LacksRun a.request p.shelf (known_of s w) (next_dispatch s w).current x.cpu ids NoRoom) turn.keeps
+      (subst (λ (r : Cpu). LacksRun a.request p.shelf (known_of s w) (next_dispatch s w).current r keep NoRoom) same run)))
 
-  pub full_at : (n : ℕ) → (next_dispatch s w).current ≡ n → IsTurn n → (ruling_of a (known_of s w) n c).error ≡ 0 → MayStop a → LacksSwap a p.shelf p.maps n → LacksRunMemory a p.shelf (known_of s w) n c → IsSwapFull p.device s w
+  pub full_at : (n : ℕ) → (next_dispatch s w).current ≡ n → IsTurn n → (ruling_of a.request (known_of s w) n c).error ≡ 0 → MayStop a.request → LacksSwap a.request p.shelf p.maps n → LacksRunMemory a.request p.shelf (known_of s w) n c → IsSwapFull p.device s w
   full_at n chosen =
-      subst (λ (i : ℕ). IsTurn i → (ruling_of a (known_of s w) i c).error ≡ 0 → MayStop a → LacksSwap a p.shelf p.maps i → LacksRunMemory a p.shelf (known_of s w) i c → IsSwapFull p.device s w) chosen
+      subst (λ (i : ℕ). IsTurn i → (ruling_of a.request (known_of s w) i c).error ≡ 0 → MayStop a.request → LacksSwap a.request p.shelf p.maps i → LacksRunMemory a.request p.shelf (known_of s w) i c → IsSwapFull p.device s w) chosen
       (λ turn none may lacks run.
       full_call p s w x (next_of turn.there) live sound a following turn.call
-      (subst (λ (r : Cpu). (ruling_of a (known_of s w) (next_dispatch s w).current r).error ≡ 0) same none) may lacks
-      (subst (λ (r : Cpu). LacksRunMemory a p.shelf (known_of s w) (next_dispatch s w).current r) same run))
+      (subst (λ (r : Cpu). (ruling_of a.request (known_of s w) (next_dispatch s w).current r).error ≡ 0) same none) may lacks
+      (subst (λ (r : Cpu). LacksRunMemory a.request p.shelf (known_of s w) (next_dispatch s w).current r) same run))
 
-  pub short_at : (n : ℕ) → (next_dispatch s w).current ≡ n → IsTurn n → HasNoError a (ruling_of a (known_of s w) n c) → MayStop a → LacksMemory a p.shelf p.maps n → LacksRunMemory a p.shelf (known_of s w) n c → s.memory < live_load s w
+  pub short_at : (n : ℕ) → (next_dispatch s w).current ≡ n → IsTurn n → HasNoError a.request (ruling_of a.request (known_of s w) n c) → MayStop a.request → LacksMemory a.request p.shelf p.maps n → LacksRunMemory a.request p.shelf (known_of s w) n c → s.memory < live_load s w
   short_at n chosen =
-      subst (λ (i : ℕ). IsTurn i → HasNoError a (ruling_of a (known_of s w) i c) → MayStop a → LacksMemory a p.shelf p.maps i → LacksRunMemory a p.shelf (known_of s w) i c → s.memory < live_load s w) chosen
+      subst (λ (i : ℕ). IsTurn i → HasNoError a.request (ruling_of a.request (known_of s w) i c) → MayStop a.request → LacksMemory a.request p.shelf p.maps i → LacksRunMemory a.request p.shelf (known_of s w) i c → s.memory < live_load s w) chosen
       (λ turn none may lacks run.
       short_call p s w x (next_of turn.there) live sound a following turn.call
-      (subst (λ (r : Cpu). HasNoError a (ruling_of a (known_of s w) (next_dispatch s w).current r)) same none) may lacks
-      (subst (λ (r : Cpu). LacksRunMemory a p.shelf (known_of s w) (next_dispatch s w).current r) same run))
+      (subst (λ (r : Cpu). HasNoError a.request (ruling_of a.request (known_of s w) (next_dispatch s w).current r)) same none) may lacks
+      (subst (λ (r : Cpu). LacksRunMemory a.request p.shelf (known_of s w) (next_dispatch s w).current r) same run))
 
 -- a call that came to no error has none by its ruling
 pub unrefused_error : (r : Ruling) (x : Roomed) → AnswersRoomed r x → IsUnrefused x → r.error ≡ 0
@@ -197,23 +198,23 @@ unrefused_error r SwapFault answers none = answers
 
 -- a call on a run that stops for want of blocks is short of memory
 pub run_full : (a : SegmentArguments) (t : Shelf) (k : Known) (n : ℕ) (c : Cpu) (keep : List SegId) → LacksRun a t k n c keep SwapFull → LacksRunMemory a t k n c
-run_full (Alloc size z o flags) t k n c keep run = tt
+run_full (Alloc size flags) t k n c keep run = tt
 run_full (Realloc size z) t k n c keep run = tt
 run_full (Free z) t k n c keep run = tt
-run_full (Size y z o) t k n c keep run = tt
+run_full (Size y) t k n c keep run = tt
 run_full (Lock z) t k n c keep run = tt
 run_full (Unlock z) t k n c keep run = tt
-run_full (Alias y z o) t k n c keep run = tt
+run_full (Alias y) t k n c keep run = tt
 run_full (Shared y) t k n c keep run = tt
 run_full (Huge y) t k n c keep run = run
 
 pub unrefused_by : (a : SegmentArguments) (r : Ruling) (x : Roomed) → AnswersRoomed r x → IsUnrefusedBy a x → HasNoError a r
-unrefused_by (Alloc size z o flags) r x answers none = unrefused_error r x answers none
+unrefused_by (Alloc size flags) r x answers none = unrefused_error r x answers none
 unrefused_by (Realloc size z) r x answers none = unrefused_error r x answers none
 unrefused_by (Free z) r x answers none = unrefused_error r x answers none
-unrefused_by (Size y z o) r x answers none = unrefused_error r x answers none
+unrefused_by (Size y) r x answers none = unrefused_error r x answers none
 unrefused_by (Lock z) r x answers none = unrefused_error r x answers none
 unrefused_by (Unlock z) r x answers none = unrefused_error r x answers none
-unrefused_by (Alias y z o) r x answers none = unrefused_error r x answers none
+unrefused_by (Alias y) r x answers none = unrefused_error r x answers none
 unrefused_by (Shared y) r x answers none = unrefused_error r x answers none
 unrefused_by (Huge y) r x answers none = tt

@@ -30,9 +30,10 @@ use Rattle.o2_world.specs.Tied.{IsSound}
 use Rattle.o2_world.specs.World.{Held, Process, Segment, Setting, World, is_live}
 use Rattle.o2_world.proofs.MapLemmas.{get-at_key}
 use Rattle.o2_ends.proofs.Letting.{live_id}
-use Rattle.o2_gate.specs.declared.gathering.SegmentArguments.{SegmentArguments}
-use Rattle.o2_gate.specs.declared.gathering.SegmentArguments.TheVariants.{Alloc, Huge, Realloc, Lock}
-use Rattle.o2_gate.specs.declared.huge.HugeArguments.{HugeArguments}
+use Rattle.o2_gate.specs.declared.requests.SegmentArguments.{SegmentArguments}
+use Rattle.o2_gate.specs.declared.arguments.Arguments.{Arguments}
+use Rattle.o2_gate.specs.declared.requests.SegmentArguments.TheVariants.{Alloc, Huge, Realloc, Lock}
+use Rattle.o2_gate.specs.declared.requests.HugeArguments.{HugeArguments}
 use Rattle.o2_run.specs.Room.{is_locked, larger, room_between, rounded as whole, size_of}
 use Rattle.o2_segs.specs.Made.{new_entry}
 use Rattle.o2_calls.specs.Acts.{MayStop, ruling_of}
@@ -318,7 +319,7 @@ has_floor names z (Names text n ∷ cs) are y m low floor = absurd are.0
 
 -- The next step of a world that is a call, which stops.
 
-module _ (p : Parts) (s : Setting) (w : World) (x : Process) (next : IsNext p s w x) (live : is_live x.state ≡ true) (sound : IsSound w) (a : SegmentArguments) (following : ℕ)
+module _ (p : Parts) (s : Setting) (w : World) (x : Process) (next : IsNext p s w x) (live : is_live x.state ≡ true) (sound : IsSound w) (a : Arguments) (following : ℕ)
     (call : IsCallOf (next_start s w x) a following) where
   abbrev pid : ℕ
   pid = (next_dispatch s w).current
@@ -371,12 +372,12 @@ module _ (p : Parts) (s : Setting) (w : World) (x : Process) (next : IsNext p s 
   names_are : (cs : List Change) → (e p s w x next live sound a following call).changes ≡ cs → behind_it.names ≡ (with_all before_it cs).names
   names_are cs is = ap (λ (q : World). q.names) (world_is p s w x next live sound a following call) ∙ ap (λ (xs : List Change). (with_all before_it xs).names) is
 
-  changes_are : (y : SegmentArguments) → a ≡ y → (e p s w x next live sound a following call).changes ≡ (ruling_of y (known_of s w) pid x.cpu).changes
+  changes_are : (y : SegmentArguments) → a.request ≡ y → (e p s w x next live sound a following call).changes ≡ (ruling_of y (known_of s w) pid x.cpu).changes
   changes_are y is = ap (λ (r : SegmentArguments). (ruling_of r (known_of s w) pid x.cpu).changes) is
 
   module _ (list : List ℕ) (base : ℕ → ℕ) (least : AreAtLeast p.shelf w.names behind_it.names list base) where
     -- a segment that is locked
-    pub lock_over : (z : ℕ) → a ≡ Lock z → (locking (known_of s w) pid z).error ≡ 0
+    pub lock_over : (z : ℕ) → a.request ≡ Lock z → (locking (known_of s w) pid z).error ≡ 0
         → (name : ℕ) × (h : IsThere p.maps pid z name) × (over (λ k. if k == h.held.id.key then rounded (entry p.shelf h.held.id.key).size else base k) (length p.shelf.entries) ≤ room_between w.names behind_it.names list)
     unfolding with_changes
     lock_over z is none =
@@ -401,7 +402,7 @@ module _ (p : Parts) (s : Setting) (w : World) (x : Process) (next : IsNext p s 
         )
 
     -- a segment that gets a size, and counts
-    pub size_over : (size z : ℕ) → a ≡ Realloc size z → (reallocation (known_of s w) pid size z).error ≡ 0 → (h : HeldThere) → held_by p.maps pid z ≡ Some h
+    pub size_over : (size z : ℕ) → a.request ≡ Realloc size z → (reallocation (known_of s w) pid size z).error ≡ 0 → (h : HeldThere) → held_by p.maps pid z ≡ Some h
         → ((n : ℕ) → key_of p.shelf n ≡ Some h.id.key → counts w.names behind_it.names list n ≡ true)
         → over (λ k. if k == h.id.key then rounded (full_size size) else base k) (length p.shelf.entries) ≤ room_between w.names behind_it.names list
     unfolding with_changes
@@ -429,7 +430,7 @@ module _ (p : Parts) (s : Setting) (w : World) (x : Process) (next : IsNext p s 
         grown old now size e = omega (arith, e)
 
     -- a member of a run that gets a size, and counts
-    pub run_over : (y : HugeArguments) → a ≡ Huge y → (id : SegId) (size : ℕ) (rest : List Change) → IsSome (entry_of p.shelf id)
+    pub run_over : (y : HugeArguments) → a.request ≡ Huge y → (id : SegId) (size : ℕ) (rest : List Change) → IsSome (entry_of p.shelf id)
         → (huge_ruling y (known_of s w) pid x.cpu).changes ≡ Resizes id.age size ∷ rest → ((n : ℕ) → key_of p.shelf n ≡ Some id.key → counts w.names behind_it.names list n ≡ true)
         → over (λ k. if k == id.key then rounded size else base k) (length p.shelf.entries) ≤ room_between w.names behind_it.names list
     unfolding with_changes
@@ -475,12 +476,12 @@ module _ (p : Parts) (s : Setting) (w : World) (x : Process) (next : IsNext p s 
                 by_new (size_of (get w.names id.age)) (size_of (get behind_it.names id.age)) (omega (arith, e, floor, same)))
 
     -- a new segment that is locked
-    pub make_over : (size o f flags : ℕ) → a ≡ Alloc size o f flags → (allocation (known_of s w) pid size flags).error ≡ 0 → MayStop (Alloc size o f flags)
+    pub make_over : (size flags : ℕ) → a.request ≡ Alloc size flags → (allocation (known_of s w) pid size flags).error ≡ 0 → MayStop (Alloc size flags)
         → over base (length p.shelf.entries) + rounded (full_size size) ≤ room_between w.names behind_it.names list
     unfolding with_changes
-    make_over size o f flags is none may =
+    make_over size flags is none may =
         let l = make_is (known_of s w) pid size flags none in
-        let names = names_are (Makes (made_segment size flags) ∷ Holds pid l.index (held_by_call (known_of s w).next) ∷ []) (changes_are (Alloc size o f flags) is ∙ l.is) in
+        let names = names_are (Makes (made_segment size flags) ∷ Holds pid l.index (held_by_call (known_of s w).next) ∷ []) (changes_are (Alloc size flags) is ∙ l.is) in
         let got : get behind_it.names w.next_name ≡ Some (made_segment size flags) = ap (λ (m : Map Segment). get m w.next_name) names ∙ put_same w.next_name (made_segment size flags) before_it.names in
         let locked : is_locked (get behind_it.names w.next_name) ≡ true = ap is_locked got ∙ ap (λ (t : Bool). nat_lt 0 (if t then 1 else 0)) may in
         let size_new : size_of (get behind_it.names w.next_name) ≡ full_size size = ap size_of got ∙ length-replicate (full_size size) 0 in

@@ -1,5 +1,5 @@
 -- What a call on segments keeps in memory: the segments in the segment registers, and that behind its pointer.
-use Rattle.std.proofs.Common.{◌≡◌, ◌⊎◌, inl, inr, ℕ, zero, suc, ◌+◌, ◌==◌, ◌&&◌, ◌||◌, nat_le, Bool, true, false, cond, List, [], ◌∷◌, ◌++◌, Option, Some, None, is_some, IsSome, ap, sym, ◌∙◌, refl, subst, arith, if◌then◌else◌}
+use Rattle.std.proofs.Common.{◌≡◌, ◌⊎◌, inl, inr, ℕ, zero, suc, ◌+◌, ◌==◌, ◌&&◌, ◌||◌, nat_le, Bool, true, false, cond, List, [], ◌∷◌, ◌++◌, Option, Some, None, is_some, IsSome, ap, sym, ◌∙◌, refl, subst, append-nil, arith, if◌then◌else◌}
 use Rattle.std.specs.Prelude.{length, slice_get}
 use Rattle.std.proofs.lemmas.Bool.{eqb-true, false≢true}
 use Rattle.o2_entries.specs.declared.Entry.{Entry}
@@ -21,20 +21,22 @@ use Rattle.o2_segbus.specs.Guards.{AreAged}
 use Rattle.o2_segbus.specs.Seen.{hold_in, key_of, present_in, present_under, seen, seen_with}
 use Rattle.o2_service.specs.Needs.{AreLive, needs, segments_of}
 use Rattle.o2_service.specs.Told.{IsHeldWell}
-use Rattle.o2_run.specs.Room.{Pointer, name_in, passed, pointed, seated}
-use Rattle.o2_gate.specs.declared.gathering.SegmentArguments.{SegmentArguments}
-use Rattle.o2_gate.specs.declared.gathering.SegmentArguments.TheVariants.{Alloc, Realloc, Free, Size, Lock, Unlock, Alias, Shared, Huge}
-use Rattle.o2_gate.specs.declared.huge.HugeArguments.TheVariants as huge
-use Rattle.o2_gate.specs.declared.sharing.SharedArguments.{SharedArguments}
-use Rattle.o2_gate.specs.declared.sharing.SharedArguments.TheVariants.{Name, Share, Give, Get}
-use Rattle.o2_gate.specs.declared.text.TextArgument.{TextArgument}
-use Rattle.o2_gate.specs.SharedReplies.{shared_targets, text_target}
-use Rattle.o2_gate.specs.Gathers.{targets}
+use Rattle.o2_world.specs.Slots.{Pointer}
+use Rattle.o2_run.specs.Room.{name_in, passed, pointed, seated}
+use Rattle.o2_gate.specs.declared.requests.SegmentArguments.{SegmentArguments}
+use Rattle.o2_gate.specs.declared.arguments.Arguments.{Arguments}
+use Rattle.o2_gate.specs.declared.requests.SegmentArguments.TheVariants.{Alloc, Realloc, Free, Size, Lock, Unlock, Alias, Shared, Huge}
+use Rattle.o2_gate.specs.declared.requests.HugeArguments.TheVariants as huge
+use Rattle.o2_gate.specs.Given.{word_in}
+use Rattle.o2_gate.specs.Requests.{request_of}
+use Rattle.o2_gate.specs.Rows.{slots_by}
+use Rattle.o2_gate.specs.Targets.{looked_in, target_in, targets}
+use Rattle.o2_world.specs.Calls.{row_of}
+use Rattle.o2_space.proofs.ForValues.{AreSome, targets_some}
 use Rattle.o2_gate.specs.Pointed.{are_ready, pointer}
-use Rattle.o2_world.specs.SharedNames.{looked_at}
 use Rattle.o2_calls.specs.Acts.{MayStop}
 use Rattle.o2_changes.proofs.Keys.{has_is}
-use Rattle.o2_stepping.specs.Rooms.{aimed_in, ages_of, pair_of, seated_in, shared_aimed}
+use Rattle.o2_stepping.specs.Rooms.{aimed_in, ages_of, pair_of, seated_in, selectors_of, under_all}
 use Rattle.o2_stepping.proofs.Lefts.{ages_both}
 use Rattle.o2_stepping.proofs.Named.{both_in, key_of_live, one_of, or_back, or_front, seated_present}
 use Rattle.o2_stepping.proofs.Rounds.{ages_seated, live_more, live_seated, pair_name}
@@ -135,21 +137,6 @@ pointed_in v p ps q e = go (p.count == 0) (bound_in v.held p.selector) e
     go false None f = absurd (false≢true f)
     go false (Some h) f = hold h (is_for_es v p.selector) (p.good h.rights && nat_le (p.offset + p.count) (length (v.bytes h.name))) f
 
--- of a text some bytes are looked at
-text_some : (x : TextArgument) → ((text_target x).count == 0) ≡ false
-text_some x = go x.bytes
-  where
-    past : (k : ℕ) → (suc k == 0) ≡ false
-    past k = grind arith
-
-    by : (b : Bool) (k : ℕ) → ((if b then 1 else suc k) == 0) ≡ false
-    by true k = refl
-    by false k = past k
-
-    go : (xs : List ℕ) → (looked_at 129 xs == 0) ≡ false
-    go [] = refl
-    go (y ∷ xs) = by (y == 0) (looked_at 128 xs)
-
 -- a selector that names what can be written may be loaded into ES
 
 writable_reads : (access : ℕ) → is_writable access ≡ true → is_readable access ≡ true
@@ -216,13 +203,9 @@ module _ (s : Shelf) (m : Maps) (pid : ℕ) (c : Cpu) where
   aimed_there : (test : ℕ → Bool) (z n : ℕ) → IsAimed test z n → present_in s n ≡ true
   aimed_there test z n x = subst (λ (k : ℕ). present_in s k ≡ true) (same_name x.hold.name n x.named) x.present
 
-  -- that of a text, and that of a word
-  two_pairs : (x : TextArgument) (z n : ℕ) → is_in n (ages_of (pair_of (held_under m pid x.selector) ++ pair_of (held_under m pid z))) ≡ true
-      → (is_in n (ages_of (pair_of (held_under m pid x.selector))) ≡ true) ⊎ (is_in n (ages_of (pair_of (held_under m pid z))) ≡ true)
-  two_pairs x z n e =
-      let first = pair_of (held_under m pid x.selector) in
-      let second = pair_of (held_under m pid z) in
-      one_of (is_in n (ages_of first)) (is_in n (ages_of second)) (sym (both_in n (ages_of first) (ages_of second)) ∙ (ap (is_in n) (sym (ages_both first second)) ∙ e))
+  -- of segments under selectors, that under the first, or one of the others
+  first_or_later : (first later : List (SegId × ℕ)) (n : ℕ) → is_in n (ages_of (first ++ later)) ≡ true → (is_in n (ages_of first) ≡ true) ⊎ (is_in n (ages_of later) ≡ true)
+  first_or_later first later n e = one_of (is_in n (ages_of first)) (is_in n (ages_of later)) (sym (both_in n (ages_of first) (ages_of later)) ∙ (ap (is_in n) (sym (ages_both first later)) ∙ e))
 
   module _ (v : View) (held : v.held ≡ hold_in m pid) (kept : (n : ℕ) → v.discarded n ≡ false) where
     aimed_passes : (z o count n : ℕ) → (count == 0) ≡ false → IsAimed is_writable z n → is_in n (pointed v (pointer true z o count ∷ [])) ≡ true
@@ -245,18 +228,37 @@ module _ (s : Shelf) (m : Maps) (pid : ℕ) (c : Cpu) where
         aimed_passes z o count n some (aimed_by is_writable z o count n some (left_true (is_ready is_writable (seen s m pid c) z o count) true ready) (aged_pair z n named))
 
     -- behind the pointer of a call that may stop is what it keeps in memory for it
-    pub passes_for : (a : SegmentArguments) → MayStop a → (n : ℕ) → are_ready (seen s m pid c) (targets a) ≡ true → is_in n (ages_of (aimed_in m pid a)) ≡ true → is_in n (pointed v (targets a)) ≡ true
-    passes_for (Alloc size z o flags) may n ready e = one_passes z o 2 n refl ready e
-    passes_for (Realloc size z) may n ready e = absurd (false≢true e)
-    passes_for (Free z) may n ready e = absurd may
-    passes_for (Size y z o) may n ready e = absurd may
-    passes_for (Lock z) may n ready e = absurd (false≢true e)
-    passes_for (Unlock z) may n ready e = absurd may
-    passes_for (Alias y z o) may n ready e = absurd may
-    passes_for (Shared a) may n ready e = absurd may
-    passes_for (Huge (huge.Alloc segs part z o most flags)) may n ready e = absurd may
-    passes_for (Huge (huge.Realloc segs part z)) may n ready e = absurd (false≢true e)
-    passes_for (Huge (huge.Shift z o)) may n ready e = absurd may
+    pub passes_for : (a : Arguments) → MayStop a.request → (n : ℕ) → are_ready (seen s m pid c) (targets a) ≡ true → is_in n (ages_of (aimed_in m pid a)) ≡ true → is_in n (pointed v (targets a)) ≡ true
+    unfolding row_of
+    passes_for a may n ready e = go a.request a.service a.same may ready e
+      where
+        Aims : SegmentArguments → ℕ → List Pointer
+        Aims x service = target_in (slots_by (row_of service)) (looked_in x) (word_in a.words)
+
+        Passes : List Pointer → Type 0
+        Passes ps = are_ready (seen s m pid c) ps ≡ true → is_in n (ages_of (under_all m pid (selectors_of ps))) ≡ true → is_in n (pointed v ps) ≡ true
+
+        none_passes : Passes []
+        none_passes ready e = absurd (false≢true e)
+
+        by_number : (x : SegmentArguments) (service number : ℕ) → service ≡ number → Passes (Aims x number) → Passes (Aims x service)
+        by_number x service number same = subst (λ (k : ℕ). Passes (Aims x k)) (sym same)
+
+        go : (x : SegmentArguments) (service : ℕ) → service ≡ (request_of x).service → MayStop x → Passes (Aims x service)
+        go (Alloc size flags) service same may =
+            by_number (Alloc size flags) service 5 same
+            (λ ready e. one_passes (word_in a.words 2) (word_in a.words 1) 2 n refl ready
+            (ap (λ (l : List (SegId × ℕ)). is_in n (ages_of l)) (sym (append-nil (pair_of (held_under m pid (word_in a.words 2))))) ∙ e))
+        go (Realloc size z) service same may = by_number (Realloc size z) service 6 same none_passes
+        go (Free z) service same may = absurd may
+        go (Size y) service same may = absurd may
+        go (Lock z) service same may = by_number (Lock z) service 9 same none_passes
+        go (Unlock z) service same may = absurd may
+        go (Alias y) service same may = absurd may
+        go (Shared y) service same may = absurd may
+        go (Huge (huge.Alloc segs part most flags)) service same may = absurd may
+        go (Huge (huge.Realloc segs part z)) service same may = by_number (Huge (huge.Realloc segs part z)) service 17 same none_passes
+        go (Huge huge.Shift) service same may = absurd may
 
     -- the segment that a selector names
     named_for : (z n : ℕ) → is_in n (name_in (bound_in v.held z)) ≡ true → is_in n (ages_of (pair_of (held_under m pid z))) ≡ true
@@ -264,85 +266,50 @@ module _ (s : Shelf) (m : Maps) (pid : ℕ) (c : Cpu) where
         subst (λ (ns : List ℕ). is_in n ns ≡ true) (sym (pair_name m pid z))
         (subst (λ (f : ℕ → Option Hold). is_in n (name_in (bound_in f z)) ≡ true) held e)
 
-    kept_for : (z o count n : ℕ) → is_in n (pointed v (pointer true z o count ∷ [])) ≡ true → is_in n (ages_of (pair_of (held_under m pid z))) ≡ true
-    kept_for z o count n e = by (pointed_in v (pointer true z o count) [] n e)
-      where
-        by : (is_in n (name_in (bound_in v.held z)) ≡ true) ⊎ (is_in n (pointed v []) ≡ true) → is_in n (ages_of (pair_of (held_under m pid z))) ≡ true
-        by (inl f) = named_for z n f
-        by (inr f) = absurd (false≢true f)
-
     both_ages : (first second : List (SegId × ℕ)) (n : ℕ) → (is_in n (ages_of first) ≡ true) ⊎ (is_in n (ages_of second) ≡ true) → is_in n (ages_of (first ++ second)) ≡ true
     both_ages first second n (inl e) = ap (is_in n) (ages_both first second) ∙ (both_in n (ages_of first) (ages_of second) ∙ or_front (is_in n (ages_of first)) (is_in n (ages_of second)) e)
     both_ages first second n (inr e) = ap (is_in n) (ages_both first second) ∙ (both_in n (ages_of first) (ages_of second) ∙ or_back (is_in n (ages_of first)) (is_in n (ages_of second)) e)
 
-    both_for : (x : TextArgument) (z o n : ℕ) → is_in n (pointed v (text_target x ∷ pointer true z o 2 ∷ [])) ≡ true → is_in n (ages_of (pair_of (held_under m pid x.selector) ++ pair_of (held_under m pid z))) ≡ true
-    both_for x z o n e = by (pointed_in v (text_target x) (pointer true z o 2 ∷ []) n e)
+    keeps_all : (ps : List Pointer) (n : ℕ) → is_in n (pointed v ps) ≡ true → is_in n (ages_of (under_all m pid (selectors_of ps))) ≡ true
+    keeps_all [] n e = absurd (false≢true e)
+    keeps_all (p ∷ ps) n e = by (keeps_all ps n) (pointed_in v p ps n e)
       where
-        by : (is_in n (name_in (bound_in v.held x.selector)) ≡ true) ⊎ (is_in n (pointed v (pointer true z o 2 ∷ [])) ≡ true)
-            → is_in n (ages_of (pair_of (held_under m pid x.selector) ++ pair_of (held_under m pid z))) ≡ true
-        by (inl f) = both_ages (pair_of (held_under m pid x.selector)) (pair_of (held_under m pid z)) n (inl (named_for x.selector n f))
-        by (inr f) = both_ages (pair_of (held_under m pid x.selector)) (pair_of (held_under m pid z)) n (inr (kept_for z o 2 n f))
+        by : (is_in n (pointed v ps) ≡ true → is_in n (ages_of (under_all m pid (selectors_of ps))) ≡ true)
+            → (is_in n (name_in (bound_in v.held p.selector)) ≡ true) ⊎ (is_in n (pointed v ps) ≡ true) → is_in n (ages_of (under_all m pid (selectors_of (p ∷ ps)))) ≡ true
+        by rest (inl f) = both_ages (pair_of (held_under m pid p.selector)) (under_all m pid (selectors_of ps)) n (inl (named_for p.selector n f))
+        by rest (inr f) = both_ages (pair_of (held_under m pid p.selector)) (under_all m pid (selectors_of ps)) n (inr (rest f))
 
-    shared_for : (a : SharedArguments) (n : ℕ) → is_in n (pointed v (shared_targets a)) ≡ true → is_in n (ages_of (shared_aimed m pid a)) ≡ true
-    shared_for (Name size x z o) n e = both_for x z o n e
-    shared_for (Share x z o) n e = both_for x z o n e
-    shared_for (Give y to z o) n e = kept_for z o 2 n e
-    shared_for (Get z) n e = absurd (false≢true e)
+    pub keeps_for : (a : Arguments) (n : ℕ) → is_in n (pointed v (targets a)) ≡ true → is_in n (ages_of (aimed_in m pid a)) ≡ true
+    keeps_for a n e = keeps_all (targets a) n e
 
-    pub keeps_for : (a : SegmentArguments) (n : ℕ) → is_in n (pointed v (targets a)) ≡ true → is_in n (ages_of (aimed_in m pid a)) ≡ true
-    keeps_for (Alloc size z o flags) n e = kept_for z o 2 n e
-    keeps_for (Realloc size z) n e = absurd (false≢true e)
-    keeps_for (Free z) n e = absurd (false≢true e)
-    keeps_for (Size y z o) n e = kept_for z o 4 n e
-    keeps_for (Lock z) n e = absurd (false≢true e)
-    keeps_for (Unlock z) n e = absurd (false≢true e)
-    keeps_for (Alias y z o) n e = kept_for z o 2 n e
-    keeps_for (Shared a) n e = shared_for a n e
-    keeps_for (Huge (huge.Alloc segs part z o most flags)) n e = kept_for z o 2 n e
-    keeps_for (Huge (huge.Realloc segs part z)) n e = absurd (false≢true e)
-    keeps_for (Huge (huge.Shift z o)) n e = kept_for z o 2 n e
-
-  word_there : (z o count n : ℕ) → (count == 0) ≡ false → is_ready is_writable (seen s m pid c) z o count ≡ true → is_in n (ages_of (pair_of (held_under m pid z))) ≡ true → present_in s n ≡ true
-  word_there z o count n some ready e = aimed_there is_writable z n (aimed_by is_writable z o count n some ready (aged_pair z n e))
-
-  both_there : (x : TextArgument) (z o n : ℕ) → are_ready (seen s m pid c) (text_target x ∷ pointer true z o 2 ∷ []) ≡ true
-      → is_in n (ages_of (pair_of (held_under m pid x.selector) ++ pair_of (held_under m pid z))) ≡ true → present_in s n ≡ true
-  both_there x z o n ready e = by (two_pairs x z n e)
+  there_all : (ps : List Pointer) → AreSome ps → (n : ℕ) → are_ready (seen s m pid c) ps ≡ true → is_in n (ages_of (under_all m pid (selectors_of ps))) ≡ true → present_in s n ≡ true
+  there_all [] some n ready e = absurd (false≢true e)
+  there_all (p ∷ ps) some n ready e = by (there_all ps some.1 n (right_true _ (are_ready (seen s m pid c) ps) ready)) (first_or_later (pair_of (held_under m pid p.selector)) (under_all m pid (selectors_of ps)) n e)
     where
-      by : (is_in n (ages_of (pair_of (held_under m pid x.selector))) ≡ true) ⊎ (is_in n (ages_of (pair_of (held_under m pid z))) ≡ true) → present_in s n ≡ true
-      by (inl f) = aimed_there is_readable x.selector n (aimed_by is_readable x.selector x.offset (text_target x).count n (text_some x) (left_true _ _ ready) (aged_pair x.selector n f))
-      by (inr f) = word_there z o 2 n refl (left_true _ true (right_true (is_ready is_readable (seen s m pid c) x.selector x.offset (text_target x).count) _ ready)) f
+      now : Bool
+      now = is_ready p.good (seen s m pid c) p.selector p.offset p.count
 
-  shared_there : (a : SharedArguments) (n : ℕ) → are_ready (seen s m pid c) (shared_targets a) ≡ true → is_in n (ages_of (shared_aimed m pid a)) ≡ true → present_in s n ≡ true
-  shared_there (Name size x z o) n ready e = both_there x z o n ready e
-  shared_there (Share x z o) n ready e = both_there x z o n ready e
-  shared_there (Give y to z o) n ready e = word_there z o 2 n refl (left_true _ true ready) e
-  shared_there (Get z) n ready e = absurd (false≢true e)
+      by : (is_in n (ages_of (under_all m pid (selectors_of ps))) ≡ true → present_in s n ≡ true)
+          → (is_in n (ages_of (pair_of (held_under m pid p.selector))) ≡ true) ⊎ (is_in n (ages_of (under_all m pid (selectors_of ps))) ≡ true) → present_in s n ≡ true
+      by rest (inl f) =
+          aimed_there p.good p.selector n
+          (aimed_by p.good p.selector p.offset p.count n some.0 (left_true now (are_ready (seen s m pid c) ps) ready) (aged_pair p.selector n f))
+      by rest (inr f) = rest f
 
-  there_for : (a : SegmentArguments) (n : ℕ) → are_ready (seen s m pid c) (targets a) ≡ true → is_in n (ages_of (aimed_in m pid a)) ≡ true → present_in s n ≡ true
-  there_for (Alloc size z o flags) n ready e = word_there z o 2 n refl (left_true _ true ready) e
-  there_for (Realloc size z) n ready e = absurd (false≢true e)
-  there_for (Free z) n ready e = absurd (false≢true e)
-  there_for (Size y z o) n ready e = word_there z o 4 n refl (left_true _ true ready) e
-  there_for (Lock z) n ready e = absurd (false≢true e)
-  there_for (Unlock z) n ready e = absurd (false≢true e)
-  there_for (Alias y z o) n ready e = word_there z o 2 n refl (left_true _ true ready) e
-  there_for (Shared a) n ready e = shared_there a n ready e
-  there_for (Huge (huge.Alloc segs part z o most flags)) n ready e = word_there z o 2 n refl (left_true _ true ready) e
-  there_for (Huge (huge.Realloc segs part z)) n ready e = absurd (false≢true e)
-  there_for (Huge (huge.Shift z o)) n ready e = word_there z o 2 n refl (left_true _ true ready) e
+  there_for : (a : Arguments) (n : ℕ) → are_ready (seen s m pid c) (targets a) ≡ true → is_in n (ages_of (aimed_in m pid a)) ≡ true → present_in s n ≡ true
+  there_for a n ready e = there_all (targets a) (targets_some a) n ready e
 
-  abbrev need : SegmentArguments → List (SegId × ℕ)
+  abbrev need : Arguments → List (SegId × ℕ)
   need a = seated_in m pid c ++ aimed_in m pid a
 
-  pub ages_need : (a : SegmentArguments) → ages_of (need a) ≡ seated (bound_registers (hold_in m pid) c) ++ ages_of (aimed_in m pid a)
+  pub ages_need : (a : Arguments) → ages_of (need a) ≡ seated (bound_registers (hold_in m pid) c) ++ ages_of (aimed_in m pid a)
   ages_need a = ages_both (seated_in m pid c) (aimed_in m pid a) ∙ ap (λ (ns : List ℕ). ns ++ ages_of (aimed_in m pid a)) (ages_seated m pid c)
 
-  pub live_need : (a : SegmentArguments) → (t : Shelf) → IsHeldWell t m → AreLive t (need a)
+  pub live_need : (a : Arguments) → (t : Shelf) → IsHeldWell t m → AreLive t (need a)
   live_need a t well = live_more t (seated_in m pid c) (aimed_in m pid a) (live_seated t m pid c well) (live_aimed t m pid a well)
 
   -- all of it is in memory before the call
-  pub need_present : (a : SegmentArguments) → CanStep s m pid c → are_ready (seen s m pid c) (targets a) ≡ true → (n : ℕ) → is_in n (ages_of (need a)) ≡ true → present_in s n ≡ true
+  pub need_present : (a : Arguments) → CanStep s m pid c → are_ready (seen s m pid c) (targets a) ≡ true → (n : ℕ) → is_in n (ages_of (need a)) ≡ true → present_in s n ≡ true
   unfolding seen_with
   need_present a step ready n e =
       by (one_of (is_in n seats) (is_in n aimed) (sym (both_in n seats aimed) ∙ (ap (is_in n) (sym (ages_need a)) ∙ e)))

@@ -7,6 +7,7 @@ pub mod Nexting
 pub mod Whole
 pub mod Afters
 pub mod Askings
+pub mod ForValues
 pub mod Aimed
 pub mod Called
 pub mod Making

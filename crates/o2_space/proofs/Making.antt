@@ -1,10 +1,8 @@
 -- What a call on segments leaves of a space, and what it asks for.
-use Rattle.std.proofs.Common.{◌≡◌, ◌≤◌, ℕ, true, List, [], ◌++◌, Option, None, ap, sym, ◌∙◌, refl, subst, arith}
+use Rattle.std.proofs.Common.{◌≡◌, ℕ, true, List, [], ◌++◌, Option, None, ap, sym, ◌∙◌, refl, subst, arith}
 use Rattle.o2_image.specs.ImageList.{ImageList}
 use Rattle.o2_isa.specs.declared.cpu.Cpu.{Cpu}
 use Rattle.o2_place.specs.declared.seg_id.SegId.{SegId}
-use Rattle.o2_regions.specs.declared.answer.Answer.{Answer}
-use Rattle.o2_regions.specs.declared.answer.Roomed.TheVariants.{Done}
 use Rattle.o2_regions.specs.Maps.{IsProcess, Maps}
 use Rattle.o2_store.specs.Needs.{named_in}
 use Rattle.o2_store.specs.Pictures.{HasPicture, picture}
@@ -19,14 +17,7 @@ use Rattle.o2_service.proofs.Among.{named_needed}
 use Rattle.o2_changes.specs.Order.{IsGuarded, IsInOrder}
 use Rattle.o2_world.specs.Changes.{with_all, with_changes}
 use Rattle.o2_world.specs.World.{World}
-use Rattle.o2_gate.specs.declared.gathering.SegmentArguments.{SegmentArguments}
-use Rattle.o2_gate.specs.declared.gathering.SegmentArguments.TheVariants.{Alloc, Realloc, Free, Size, Lock, Unlock, Alias, Shared, Huge}
-use Rattle.o2_gate.specs.declared.huge.HugeArguments.{HugeArguments}
-use Rattle.o2_gate.specs.declared.huge.HugeArguments.TheVariants as huge
-use Rattle.o2_gate.specs.declared.sharing.SharedArguments.{SharedArguments}
-use Rattle.o2_gate.specs.declared.sharing.SharedArguments.TheVariants.{Name, Share, Give, Get}
-use Rattle.o2_gate.specs.Replies.{IsValue}
-use Rattle.o2_calls.specs.Stops.{IsGivable, IsRunGivable}
+use Rattle.o2_gate.specs.declared.arguments.Arguments.{Arguments}
 use Rattle.o2_stands.specs.Moves.{moved}
 use Rattle.o2_stands.specs.Parts.{Parts, Running}
 use Rattle.o2_stands.specs.Stands.{IsReady, Matches, Stands}
@@ -39,33 +30,9 @@ use Rattle.o2_stepping.proofs.Rounds.{live_more, live_seated}
 use Rattle.o2_space.proofs.Aimed.{live_aimed}
 use Rattle.o2_space.proofs.Alike.{made, ready_as}
 
--- A value that is given is a word where it is a selector.
-
-shared_value : (a : SharedArguments) (value : ℕ) → value ≤ 65535 → IsValue (Shared a) value
-shared_value (Name size t s o) value h = h
-shared_value (Share t s o) value h = h
-shared_value (Give selector to s o) value h = h
-shared_value (Get selector) value h = tt
-
-huge_value : (a : HugeArguments) (x : Answer) → IsRunGivable a (Done x) → IsValue (Huge a) x.value
-huge_value (huge.Alloc segs part s o most flags) x h = h
-huge_value (huge.Realloc segs part selector) x h = tt
-huge_value (huge.Shift s o) x h = h
-
-pub value_of : (a : SegmentArguments) (x : Answer) → IsGivable a (Done x) → IsValue a x.value
-value_of (Alloc size s o flags) x h = h
-value_of (Realloc size s) x h = tt
-value_of (Free s) x h = tt
-value_of (Size y s o) x h = tt
-value_of (Lock s) x h = tt
-value_of (Unlock s) x h = tt
-value_of (Alias y s o) x h = h
-value_of (Shared a) x h = shared_value a x.value h
-value_of (Huge a) x h = huge_value a x h
-
 -- What is behind the pointer is among what is kept in memory.
 
-pub kept_named : (s : Shelf) (m : Maps) (pid : ℕ) (c : Cpu) (a : SegmentArguments) (keep : List SegId) (need : List (SegId × ℕ)) → IsHeldWell s m → keep ≡ segments_of need → need ≡ seated_in m pid c ++ aimed_in m pid a
+pub kept_named : (s : Shelf) (m : Maps) (pid : ℕ) (c : Cpu) (a : Arguments) (keep : List SegId) (need : List (SegId × ℕ)) → IsHeldWell s m → keep ≡ segments_of need → need ≡ seated_in m pid c ++ aimed_in m pid a
     → (k : ℕ) → needs (aimed_in m pid a) k ≡ true → named_in s.entries keep k ≡ true
 kept_named s m pid c a keep need well is both k e =
     let seats = seated_in m pid c in

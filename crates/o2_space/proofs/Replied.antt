@@ -19,11 +19,12 @@ use Rattle.o2_world.specs.Tied.{IsSound}
 use Rattle.o2_world.specs.World.{Line, Process, Setting, Traps, World, is_live}
 use Rattle.o2_world.proofs.Flags.{live_is}
 use Rattle.o2_world.proofs.StepSound.{IsOrderly, effect_orderly}
-use Rattle.o2_gate.specs.declared.gathering.SegmentArguments.{SegmentArguments}
-use Rattle.o2_gate.specs.Gathers.{asked}
+use Rattle.o2_gate.specs.declared.arguments.Arguments.{Arguments}
+use Rattle.o2_gate.specs.Targets.{asked}
 use Rattle.o2_gate.specs.declared.moves.Block.{Block}
 use Rattle.o2_gate.specs.MovedLines.{all_lines}
-use Rattle.o2_gate.specs.Replies.{call_line, lines_of, name_of}
+use Rattle.o2_gate.specs.Replies.{call_line, lines_of}
+use Rattle.o2_gate.specs.Targets.{name_of}
 use Rattle.o2_shared.specs.declared.names.Name.{Name}
 use Rattle.o2_store.specs.Shelf.{Shelf}
 use Rattle.o2_calls.specs.Acts.{ruling_of}
@@ -45,7 +46,7 @@ use Rattle.o2_space.specs.Stands.{StandsCommitted}
 use Rattle.o2_space.proofs.Afters.{orderly_before, trapped_after}
 
 -- what is put of a call, and what state it leaves
-pub record IsTold (pid : ℕ) (registers : Cpu) (a : SegmentArguments) (error value : ℕ) (moves : List Block) (report_old report_new : Option (List ℕ)) (ran : Ran) : Type 0 where
+pub record IsTold (pid : ℕ) (registers : Cpu) (a : Arguments) (error value : ℕ) (moves : List Block) (report_old report_new : Option (List ℕ)) (ran : Ran) : Type 0 where
   pub state : ran.state ≡ state_behind registers
   pub bytes : ran.tally.bytes ≡ 0
   pub lines : ran.tally.lines ≡ length (lines_of a pid error value moves ++ trap_lines pid registers)
@@ -78,8 +79,8 @@ some_running (Some y) r e = (y, refl, some_is e)
 pub equal_self : (n : ℕ) → (n == n) ≡ true
 equal_self n = grind arith
 
-module _ (s : Setting) (w : World) (x : Process) (pid : ℕ) (a : SegmentArguments) (next : ℕ) (cpu : Cpu) (p : Parts) (answer : Answer) (called : IsCalled s w pid x a next cpu p answer)
-    (moves : List Block) (moved : all_lines (name_of a) moves ≡ moved_lines (name_of a) (ruling_of a (known_of s w) pid x.cpu).changes) (registers : Cpu) (same : registers ≡ x.cpu)
+module _ (s : Setting) (w : World) (x : Process) (pid : ℕ) (a : Arguments) (next : ℕ) (cpu : Cpu) (p : Parts) (answer : Answer) (called : IsCalled s w pid x a next cpu p answer)
+    (moves : List Block) (moved : all_lines (name_of a) moves ≡ moved_lines (name_of a) (ruling_of a.request (known_of s w) pid x.cpu).changes) (registers : Cpu) (same : registers ≡ x.cpu)
     (eff : let b = before s w pid x in effect b ≡ single_stepped b (asked a b next)) (r q i c : Option (List ℕ)) (ran : Ran) (told : IsTold pid registers a answer.error answer.value moves r q ran)
     (input : i ≡ Some w.input) where
   abbrev b : Before
@@ -97,8 +98,8 @@ module _ (s : Setting) (w : World) (x : Process) (pid : ℕ) (a : SegmentArgumen
   same_lines : lines ≡ e.lines
   same_lines =
       ap (λ (n : ℕ). lines_of a pid n answer.value moves) called.answers.error
-      ∙ (ap (λ (n : ℕ). lines_of a pid (ruling_of a (known_of s w) pid x.cpu).error n moves) called.answers.value
-      ∙ ap (λ (ls : List Line). call_line a pid (ruling_of a (known_of s w) pid x.cpu).error (ruling_of a (known_of s w) pid x.cpu).value ∷ ls) moved)
+      ∙ (ap (λ (n : ℕ). lines_of a pid (ruling_of a.request (known_of s w) pid x.cpu).error n moves) called.answers.value
+      ∙ ap (λ (ls : List Line). call_line a pid (ruling_of a.request (known_of s w) pid x.cpu).error (ruling_of a.request (known_of s w) pid x.cpu).value ∷ ls) moved)
 
   -- without exception 1
 
@@ -204,7 +205,7 @@ matches_by p w d k x e same m =
 
 -- Where exception 1 ends the process: it goes from the world that the call leaves, which is tidy.
 
-abbrev ThenTrapped : Setting → World → Process → SegmentArguments → (next : ℕ) → Cpu → Parts → Answer → Parts → (pid : ℕ) → Type 0
+abbrev ThenTrapped : Setting → World → Process → Arguments → (next : ℕ) → Cpu → Parts → Answer → Parts → (pid : ℕ) → Type 0
 ThenTrapped s w x a next cpu p answer z pid =
     let b = before s w pid x in
     let e = replied_by a b next in
@@ -214,7 +215,7 @@ ThenTrapped s w x a next cpu p answer z pid =
     → StandsCommitted v.processes v.names v.next_name v.reserved pid y (record { cpu = cpu; state = Trapped 1 }) z)
     → (k : Dispatch) → k.current ≡ pid → Matches z (changed w k x (record e { state = Trapped 1; lines = e.lines ++ Traps b.number 1 b.cpu.cs b.cpu.ip ∷ [] }))
 
-module _ (s : Setting) (w : World) (x : Process) (a : SegmentArguments) (next : ℕ) (cpu : Cpu) (p : Parts) (answer : Answer) (z : Parts) (live : is_live x.state ≡ true) (sound : IsSound w) (tidy_now : IsTidy w.processes w.names w.reserved) where
+module _ (s : Setting) (w : World) (x : Process) (a : Arguments) (next : ℕ) (cpu : Cpu) (p : Parts) (answer : Answer) (z : Parts) (live : is_live x.state ≡ true) (sound : IsSound w) (tidy_now : IsTidy w.processes w.names w.reserved) where
   abbrev d : Dispatch
   d = next_dispatch s w
 
@@ -240,5 +241,5 @@ module _ (s : Setting) (w : World) (x : Process) (a : SegmentArguments) (next : 
   then_trapped pid chosen = subst (ThenTrapped s w x a next cpu p answer z) chosen at_current
 
 -- a step that is a call is orderly, whatever its effect is told by
-pub orderly_call : (b : Before) (a : SegmentArguments) (next : ℕ) → effect b ≡ single_stepped b (asked a b next) → IsOrderly b (single_stepped b (replied_by a b next))
+pub orderly_call : (b : Before) (a : Arguments) (next : ℕ) → effect b ≡ single_stepped b (asked a b next) → IsOrderly b (single_stepped b (replied_by a b next))
 orderly_call b a next eff = subst (λ (e : Effect). IsOrderly b e) (eff ∙ ap (single_stepped b) (asked_is b next a)) (effect_orderly b)

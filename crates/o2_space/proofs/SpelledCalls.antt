@@ -18,7 +18,7 @@ use Rattle.o2_world.specs.Tied.{IsSound}
 use Rattle.o2_world.specs.World.{Process, Setting, Traps, World, is_live}
 use Rattle.o2_world.proofs.Flags.{live_is}
 use Rattle.o2_world.proofs.StepSound.{IsOrderly, effect_orderly}
-use Rattle.o2_gate.specs.declared.gathering.SegmentArguments.{SegmentArguments}
+use Rattle.o2_gate.specs.declared.arguments.Arguments.{Arguments}
 use Rattle.o2_stands.specs.Moves.{with_running}
 use Rattle.o2_stands.specs.Parts.{Parts}
 use Rattle.o2_stands.specs.Stands.{IsTidy, Matches}
@@ -65,13 +65,13 @@ module _ (s : Setting) (w : World) (x : Process) (live : is_live x.state ≡ tru
 
   -- A call.
 
-  module _ (a : SegmentArguments) (next : ℕ) where
+  module _ (a : Arguments) (next : ℕ) where
     abbrev SpellsCalled : Cpu → Parts → Answer → (old new : List (Option Name)) → (pid : ℕ) → Type 0
     SpellsCalled cpu p answer old new pid =
         let b = before s w pid x in
         let e = replied_by a b next in
         process_at w.processes pid ≡ Some x → IsOrderly b (single_stepped b e) → IsCalled s w pid x a next cpu p answer
-        → LeavesSpelled a p.shelf old new (with_all w (ruling_of a (known_of s w) pid x.cpu).changes)
+        → LeavesSpelled a.request p.shelf old new (with_all w (ruling_of a.request (known_of s w) pid x.cpu).changes)
         → (k : Dispatch) → k.current ≡ pid → AreSpelled p.shelf new (changed w k x e)
 
     called_now : (t : Shelf) (m : Maps) (cpu : Cpu) (p : Parts) (answer : Answer) (old new : List (Option Name)) → IsKept t m old w p.shelf → SpellsCalled cpu p answer old new d.current
@@ -80,11 +80,11 @@ module _ (s : Setting) (w : World) (x : Process) (live : is_live x.state ≡ tru
         let e = replied_by a b next in
         let q : Parts = with_running p d.current (record { cpu = cpu; state = Live }) in
         spelled_turn p.shelf new w k d x e current at
-        (by_name (known_of s w) d.current (AreSpelled p.shelf new (changed w d x e)) a x.cpu p.shelf old new (with_all w (ruling_of a (known_of s w) d.current x.cpu).changes) leaves
+        (by_name (known_of s w) d.current (AreSpelled p.shelf new (changed w d x e)) a.request x.cpu p.shelf old new (with_all w (ruling_of a.request (known_of s w) d.current x.cpu).changes) leaves
         (λ same none.
         spelled_by p.shelf old new (changed w d x e) same
         (spelled_next s w x at (live_is x.state live) sound e (orderly_before b e orderly) tidy t m old q kept.aged kept.places kept.behind kept.spelled none (called.matches d refl)))
-        (λ shared. spelled_to p.shelf new (with_all w (ruling_of a (known_of s w) d.current x.cpu).changes) (changed w d x e) (texts_changed w d x e at) shared))
+        (λ shared. spelled_to p.shelf new (with_all w (ruling_of a.request (known_of s w) d.current x.cpu).changes) (changed w d x e) (texts_changed w d x e at) shared))
 
     pub called_spelled : (t : Shelf) (m : Maps) (cpu : Cpu) (p : Parts) (answer : Answer) (old new : List (Option Name)) → AreAged t → AreInPlace t m old → IsBehind t p.shelf → AreSpelled t old w
         → (pid : ℕ) → d.current ≡ pid → SpellsCalled cpu p answer old new pid

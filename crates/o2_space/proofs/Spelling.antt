@@ -25,8 +25,8 @@ use Rattle.o2_world.specs.declared.types.State.TheVariants.{Live}
 use Rattle.o2_world.proofs.BareChanges.{same_all, worked_bare}
 use Rattle.o2_world.proofs.StepSound.{IsOrderly, acted_sound}
 use Rattle.o2_desc.specs.Bits.{is_writable}
-use Rattle.o2_gate.specs.declared.gathering.SegmentArguments.{SegmentArguments}
-use Rattle.o2_gate.specs.declared.gathering.SegmentArguments.TheVariants.{Alloc, Realloc, Free, Size, Lock, Unlock, Alias, Shared, Huge}
+use Rattle.o2_gate.specs.declared.requests.SegmentArguments.{SegmentArguments}
+use Rattle.o2_gate.specs.declared.requests.SegmentArguments.TheVariants.{Alloc, Realloc, Free, Size, Lock, Unlock, Alias, Shared, Huge}
 use Rattle.o2_stands.specs.Parts.{Parts}
 use Rattle.o2_stands.specs.Stands.{IsTidy, Matches, Stands}
 use Rattle.o2_stands.proofs.Matching.{matched_by}
@@ -277,37 +277,37 @@ module _ (k : Known) (n : ℕ) where
   -- what a call leaves of the names by which processes share, by whether it may name
   pub by_name : (P : Type 0) (a : SegmentArguments) (c : Cpu) (t : Shelf) (old new : List (Option Name)) (w : World) → LeavesSpelled a t old new w
       → (new ≡ old → NameNothing (ruling_of a k n c).changes → P) → (AreSpelled t new w → P) → P
-  by_name P (Alloc size s o flags) c t old new w leaves own shared =
+  by_name P (Alloc size flags) c t old new w leaves own shared =
       own leaves (either RulesNoName (nat_lt 15 flags) _ _ tt (either RulesNoName (nat_le k.most k.count) _ _ tt (alloc_at size flags (free_index k (region_by n flags)))))
   by_name P (Realloc size selector) c t old new w leaves own shared = own leaves (resize_of (full_size size) (held_under k n selector))
   by_name P (Free selector) c t old new w leaves own shared = own leaves (free_of selector c (held_under k n selector))
-  by_name P (Size selector s o) c t old new w leaves own shared = own leaves (size_of (held_under k n selector))
+  by_name P (Size selector) c t old new w leaves own shared = own leaves (size_of (held_under k n selector))
   by_name P (Lock selector) c t old new w leaves own shared = own leaves (lock_of (held_under k n selector))
   by_name P (Unlock selector) c t old new w leaves own shared = own leaves (unlock_of (held_under k n selector))
-  by_name P (Alias selector s o) c t old new w leaves own shared = own leaves (alias_of (selector / 8) (held_under k n selector))
+  by_name P (Alias selector) c t old new w leaves own shared = own leaves (alias_of (selector / 8) (held_under k n selector))
   by_name P (Shared a) c t old new w leaves own shared = shared leaves
   by_name P (Huge a) c t old new w leaves own shared = own leaves (runs_no_name (ruling_of (Huge a) k n c).changes (runs_change a k n c))
 
 -- a call that may stop names nothing
 pub stops_unnamed : (a : SegmentArguments) → MayStop a → (t : Shelf) (old new : List (Option Name)) (w : World) → LeavesSpelled a t old new w → new ≡ old
-stops_unnamed (Alloc size s o flags) may t old new w leaves = leaves
+stops_unnamed (Alloc size flags) may t old new w leaves = leaves
 stops_unnamed (Realloc size selector) may t old new w leaves = leaves
 stops_unnamed (Free selector) may t old new w leaves = leaves
-stops_unnamed (Size selector s o) may t old new w leaves = leaves
+stops_unnamed (Size selector) may t old new w leaves = leaves
 stops_unnamed (Lock selector) may t old new w leaves = leaves
 stops_unnamed (Unlock selector) may t old new w leaves = leaves
-stops_unnamed (Alias selector s o) may t old new w leaves = leaves
+stops_unnamed (Alias selector) may t old new w leaves = leaves
 stops_unnamed (Shared a) may t old new w leaves = absurd may
 stops_unnamed (Huge a) may t old new w leaves = leaves
 
 -- a call whose value is written then
 pub leaves_written : (a : SegmentArguments) (s t : Shelf) → KeepsStore s t → (old new : List (Option Name)) (w : World) → LeavesSpelled a s old new w → LeavesSpelled a t old new w
-leaves_written (Alloc size z o flags) s t store old new w leaves = leaves
+leaves_written (Alloc size flags) s t store old new w leaves = leaves
 leaves_written (Realloc size selector) s t store old new w leaves = leaves
 leaves_written (Free selector) s t store old new w leaves = leaves
-leaves_written (Size selector z o) s t store old new w leaves = leaves
+leaves_written (Size selector) s t store old new w leaves = leaves
 leaves_written (Lock selector) s t store old new w leaves = leaves
 leaves_written (Unlock selector) s t store old new w leaves = leaves
-leaves_written (Alias selector z o) s t store old new w leaves = leaves
+leaves_written (Alias selector) s t store old new w leaves = leaves
 leaves_written (Shared a) s t store old new w leaves = spelled_written s t store new w leaves
 leaves_written (Huge a) s t store old new w leaves = leaves

@@ -7,8 +7,8 @@ use Rattle.o2_world.specs.Text.{lines_text}
 use Rattle.o2_world.specs.Views.{with_bytes}
 use Rattle.o2_world.specs.Calls.{Before, Effect}
 use Rattle.o2_world.specs.Effect.{effect, single_stepped}
-use Rattle.o2_gate.specs.declared.gathering.SegmentArguments.{SegmentArguments}
-use Rattle.o2_gate.specs.Gathers.{asked}
+use Rattle.o2_gate.specs.declared.arguments.Arguments.{Arguments}
+use Rattle.o2_gate.specs.Targets.{asked}
 use Rattle.o2_run.specs.declared.fault.Fault.{Fault}
 use Rattle.o2_stepping.specs.Ran.{IsCallOf, TakesText}
 use Rattle.o2_stepping.specs.Tallies.{IsTally}
@@ -32,7 +32,7 @@ pub record IsBetween (w : World) (e : Effect) (ran : Ran) (registers : Cpu) (p :
   pub to_report : TakesText ran.whole report_old report_new (lines_text e.lines)
 
 -- the step is a call on segments with these arguments, and nothing is changed, taken or put yet
-pub record IsAskedFor (b : Before) (w : World) (a : SegmentArguments) (next : ℕ) (registers : Cpu) (p : Parts)
+pub record IsAskedFor (b : Before) (w : World) (a : Arguments) (next : ℕ) (registers : Cpu) (p : Parts)
     (left_old left_new console_old console_new report_old report_new : Option (List ℕ)) : Type 0 where
   pub effect : effect b ≡ single_stepped b (asked a b next)
   pub called : IsCallOf b a next

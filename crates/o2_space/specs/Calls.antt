@@ -7,7 +7,8 @@ use Rattle.o2_world.specs.declared.types.State.TheVariants.{Live}
 use Rattle.o2_world.specs.Known.{known_of}
 use Rattle.o2_world.specs.Run.{before, changed}
 use Rattle.o2_world.specs.World.{Process, Setting, World}
-use Rattle.o2_gate.specs.declared.gathering.SegmentArguments.{SegmentArguments}
+use Rattle.o2_gate.specs.declared.requests.SegmentArguments.{SegmentArguments}
+use Rattle.o2_gate.specs.declared.arguments.Arguments.{Arguments}
 use Rattle.o2_run.specs.declared.fault.Fault.{Fault}
 use Rattle.o2_run.specs.Room.{Fits}
 use Rattle.o2_shared.specs.declared.names.Name.{Name}
@@ -26,14 +27,14 @@ abbrev pub no_registers : Cpu
 no_registers = record { ax = 0; cx = 0; dx = 0; bx = 0; sp = 0; bp = 0; si = 0; di = 0; ip = 0; flags = 0; cs = 0; ds = 0; es = 0; ss = 0 }
 
 -- the call is made, and its process has these registers once they are written back
-pub record IsCalled (s : Setting) (w : World) (number : ℕ) (x : Process) (a : SegmentArguments) (next : ℕ) (registers : Cpu) (p : Parts) (answer : Answer) : Type 0 where
-  pub answers : Answers (ruling_of a (known_of s w) number x.cpu) answer
+pub record IsCalled (s : Setting) (w : World) (number : ℕ) (x : Process) (a : Arguments) (next : ℕ) (registers : Cpu) (p : Parts) (answer : Answer) : Type 0 where
+  pub answers : Answers (ruling_of a.request (known_of s w) number x.cpu) answer
   pub cpu : registers ≡ (replied_by a (before s w number x) next).cpu
   pub matches : (d : Dispatch) → d.current ≡ number
       → Matches (with_running p number (record { cpu = registers; state = Live })) (changed w d x (replied_by a (before s w number x) next))
 
 -- by the answer; at a fault the parts stand for the same world
-abbrev pub Makes : Setting → World → (number : ℕ) → Process → SegmentArguments → (next : ℕ) → Cpu → Parts → Result Answer Fault → Type 0
+abbrev pub Makes : Setting → World → (number : ℕ) → Process → Arguments → (next : ℕ) → Cpu → Parts → Result Answer Fault → Type 0
 Makes s w number x a next registers p (Ok answer) = IsCalled s w number x a next registers p answer
 Makes s w number x a next registers p (Err f) = Stands p w
 

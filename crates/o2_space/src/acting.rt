@@ -16,7 +16,7 @@ ghost use Rattle.o2_world.specs.Holders.{process_at};
 ghost use Rattle.o2_world.specs.Run.{before, next_dispatch};
 ghost use Rattle.o2_world.specs.Map.{Map};
 ghost use Rattle.o2_world.specs.World.{Process, Reserve, Segment, Setting, World, is_live as lives_on};
-ghost use Rattle.o2_gate.specs.Gathers.{targets};
+ghost use Rattle.o2_gate.specs.Targets.{targets};
 ghost use Rattle.o2_gate.specs.Pointed.{are_ready};
 ghost use Rattle.o2_stands.specs.Moves.{with_running};
 ghost use Rattle.o2_stands.specs.Parts.{Running as RunningThere};

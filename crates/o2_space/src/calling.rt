@@ -12,10 +12,11 @@ ghost use Rattle.o2_world.specs.Effect.{effect, single_stepped};
 ghost use Rattle.o2_world.specs.Run.{before};
 ghost use Rattle.o2_world.specs.Tied.{IsTied};
 ghost use Rattle.o2_world.specs.World.{Process, Setting, World, is_live as lives_on};
-ghost use Rattle.o2_gate.specs.Gathers.{asked, targets};
+ghost use Rattle.o2_gate.specs.Targets.{asked, targets};
 ghost use Rattle.o2_gate.specs.Pointed.{are_ready};
 ghost use Rattle.o2_gate.specs.MovedLines.{AreInside, all_lines};
-ghost use Rattle.o2_gate.specs.Replies.{IsValue, bytes_of, name_of};
+ghost use Rattle.o2_gate.specs.Replies.{IsValue, bytes_of};
+ghost use Rattle.o2_gate.specs.Targets.{name_of};
 ghost use Rattle.o2_stands.specs.Stands.{Stands};
 ghost use Rattle.o2_run.specs.Pieces.{counts};
 ghost use Rattle.o2_stepping.specs.Pieces.{RanHands};
@@ -42,7 +43,7 @@ ghost use Rattle.o2_run.specs.Room.{AllFits};
 use crate::acting::is_live;
 use crate::space::Space;
 use o2_calls::{act, count, note};
-use o2_gate::{SegmentArguments, come_back, give_value};
+use o2_gate::{Arguments, come_back, give_value};
 use o2_isa::Cpu;
 use o2_outer::{Sink, SwapDevice};
 use o2_regions::{Answer, Regions, Roomed};
@@ -54,7 +55,7 @@ use o2_store::Store;
 use o2_world::State;
 
 /// The value of a call on segments, said of store and tables.
-fn give_in(bus: &mut SegBus<'_, '_>, arguments: SegmentArguments, answer: &Answer)
+fn give_in(bus: &mut SegBus<'_, '_>, arguments: Arguments, answer: &Answer)
     requires agrees { registers_of bus.old.regions.now bus.old.pid bus.old.registers
         ≡ bound_registers (hold_in bus.old.regions.now bus.old.pid) no_registers }
     requires ready { are_ready (seen bus.old.store.now bus.old.regions.now bus.old.pid no_registers) (targets arguments) ≡ true }
@@ -74,13 +75,7 @@ fn give_in(bus: &mut SegBus<'_, '_>, arguments: SegmentArguments, answer: &Answe
 
 /// Writes the value of a call on segments behind its pointer, where it has one and came to no error. No segment register is
 /// looked at.
-fn give(
-    store: &mut Store,
-    regions: &mut Regions,
-    pid: u16,
-    arguments: SegmentArguments,
-    answer: &Answer,
-)
+fn give(store: &mut Store, regions: &mut Regions, pid: u16, arguments: Arguments, answer: &Answer)
     requires process { IsProcess regions.old pid }
     requires named { AreNamed store.old regions.old }
     requires settled { IsSettled store.old regions.old }
@@ -119,7 +114,7 @@ impl Space {
         &mut self,
         pid: u16,
         cpu: &mut Cpu,
-        arguments: SegmentArguments,
+        arguments: Arguments,
         next: u16,
         swap: &mut S,
     ) -> Result<Answer, Fault>
@@ -150,8 +145,8 @@ impl Space {
             → Stands (parts_in self.old (S.blocks swap.old) (S.block swap.old)) w
             → AgreesWith self.old (S.blocks swap.old) (S.block swap.old) s w
             → cpu.old ≡ x.cpu
-            → MakesNames arguments self.new.store self.old.names self.new.names
-            (with_all w (ruling_of arguments (known_of s w) pid x.cpu).changes) result }
+            → MakesNames arguments.request self.new.store self.old.names self.new.names
+            (with_all w (ruling_of arguments.request (known_of s w) pid x.cpu).changes) result }
         ensures behind { IsBehind self.old.store self.new.store }
         ensures stops { OnErr result (λ f. IsSwapStop f) }
         ensures value { IfOk result (λ a. IsValue arguments a.value) }
@@ -161,7 +156,7 @@ impl Space {
             → AgreesWith self.old (S.blocks swap.old) (S.block swap.old) s w
             → IsTied w → cpu.old ≡ x.cpu
             → OnOk result (all_lines (name_of arguments) self.new.services.moves
-            ≡ moved_lines (name_of arguments) (ruling_of arguments (known_of s w) pid x.cpu).changes) }
+            ≡ moved_lines (name_of arguments) (ruling_of arguments.request (known_of s w) pid x.cpu).changes) }
         ensures inside { OnOk result (AreInside self.new.services.moves) }
         ensures together { GoTogether self.new (S.blocks swap.new) }
         ensures keeps { KeepsSpace self.old self.new }
@@ -173,9 +168,9 @@ impl Space {
     {
         lawful(&self.store, &self.regions);
         let need = call_need(arguments, &self.regions, pid, cpu);
-        let counted = count(arguments, &self.regions, pid);
+        let counted = count(arguments.request, &self.regions, pid);
         match act(
-            arguments,
+            arguments.request,
             pid,
             cpu,
             &mut self.store,
@@ -191,7 +186,14 @@ impl Space {
             Roomed::SwapFault => Err(Fault::Stopped(Stop::SwapFault)),
             Roomed::Done(answer) => {
                 let moves = &mut self.services.moves;
-                note(moves, arguments, pid, counted, &self.regions, &answer);
+                note(
+                    moves,
+                    arguments.request,
+                    pid,
+                    counted,
+                    &self.regions,
+                    &answer,
+                );
                 lawful(&self.store, &self.regions);
                 give(&mut self.store, &mut self.regions, pid, arguments, &answer);
                 lawful(&self.store, &self.regions);
@@ -210,7 +212,7 @@ impl Space {
         &mut self,
         pid: u16,
         registers: Cpu,
-        arguments: SegmentArguments,
+        arguments: Arguments,
         next: u16,
         report: &mut R,
         swap: &mut S,

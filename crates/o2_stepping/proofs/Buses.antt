@@ -16,8 +16,9 @@ use Rattle.o2_world.specs.Calls.{Before}
 use Rattle.o2_world.specs.Effect.{effect}
 use Rattle.o2_run.specs.declared.fault.Fault.{Fault}
 use Rattle.o2_run.specs.Pieces.{Counts, PartHands}
-use Rattle.o2_run.specs.Room.{Pointer, touched}
-use Rattle.o2_gate.specs.declared.gathering.SegmentArguments.{SegmentArguments}
+use Rattle.o2_world.specs.Slots.{Pointer}
+use Rattle.o2_run.specs.Room.{touched}
+use Rattle.o2_gate.specs.declared.arguments.Arguments.{Arguments}
 use Rattle.o2_gate.specs.Befores.{boundless, before_call}
 use Rattle.o2_gate.specs.Replies.{bytes_of}
 use Rattle.o2_gate.specs.Pointed.{ArePresent, are_ready}
@@ -124,7 +125,7 @@ unfolding bus_view seen_with
 aimed_on a c ps ready = ready_like (view_of a) (seen a.store.now a.regions.now a.pid c) ps refl refl refl ∙ ready
 
 -- what is written behind a pointer
-pub given_there : (away : ℕ → List ℕ) (a b : SegBus) (x : SegmentArguments) (error value n : ℕ)
+pub given_there : (away : ℕ → List ℕ) (a b : SegBus) (x : Arguments) (error value n : ℕ)
     → (whole (filling away) (view_of b)).bytes n ≡ bytes_of x error value (view_of a).held (whole (filling away) (view_of a)).bytes n
     → bytes_with away b.store.now n ≡ bytes_of x error value (hold_in a.regions.now a.pid) (bytes_with away a.store.now) n
 unfolding bus_view seen_with

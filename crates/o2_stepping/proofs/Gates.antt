@@ -1,5 +1,5 @@
 -- An attempt at a step over a bus, as the step of the boundless machine.
-use Rattle.std.proofs.Common.{◌≡◌, ℕ, List, Option, Some, true, ap, sym, ◌∙◌, subst}
+use Rattle.std.proofs.Common.{◌≡◌, ℕ, List, Option, true, ap, sym, ◌∙◌, subst}
 use Rattle.std.specs.Prelude.{Result, Ok, Err}
 use Rattle.o2_base.specs.declared.selector.Selector.{Selector}
 use Rattle.o2_isa.specs.declared.cpu.Cpu.{Cpu}
@@ -12,28 +12,25 @@ use Rattle.o2_isa.specs.Presence.{whole_state, IsMissed}
 use Rattle.o2_isa.specs.Step.{stepped, AsBoundless}
 use Rattle.o2_isa.proofs.StepLaws.{answers_unseen}
 use Rattle.o2_world.specs.Known.{Known}
-use Rattle.o2_world.specs.declared.types.Row.{Row}
-use Rattle.o2_gate.specs.declared.gathering.AskedCall.{AskedCall}
-use Rattle.o2_gate.specs.Gathers.{row_for}
-use Rattle.o2_world.specs.Calls.{Before, Effect, IsPlain, row_of, served, served_by, serviced, asks}
-use Rattle.o2_world.specs.Effect.{effect, single_stepped}
-use Rattle.o2_world.proofs.Quiet.{served_quiet}
-use Rattle.o2_gate.specs.declared.gathering.SegmentArguments.{SegmentArguments}
+use Rattle.o2_world.specs.Calls.{Effect, row_of, serviced, asks}
+use Rattle.o2_world.specs.Effect.{effect}
+use Rattle.o2_gate.specs.declared.arguments.Arguments.{Arguments}
 use Rattle.o2_gate.specs.Befores.{boundless, before_call}
 use Rattle.o2_gate.specs.Pointed.{ArePresent, IsAway}
-use Rattle.o2_gate.specs.Called.{IsUntouched, FaultsFor, DoesFor, OnMissed}
+use Rattle.o2_gate.specs.Called.{IsUntouched, FaultsFor, DoesFor, OnAsked as OnAskedCall, OnMissed, OnUndone as OnUndoneCall}
 use Rattle.o2_gate.specs.declared.called.Called.{Called}
-use Rattle.o2_gate.specs.declared.called.Called.TheVariants.{Missed}
+use Rattle.o2_gate.specs.declared.called.Called.TheVariants.{Asked, Missed}
+use Rattle.o2_gate.specs.Targets.{targets}
+use Rattle.o2_run.specs.Room.{call_names, pointed}
 use Rattle.o2_run.specs.declared.steps.Stop.TheVariants as halt
 use Rattle.o2_run.specs.declared.fault.Fault.{Fault}
 use Rattle.o2_run.specs.declared.fault.Fault.TheVariants as fault
 use Rattle.o2_run.specs.Faults.{CauseOf}
-use Rattle.o2_stepping.specs.Ran.{IsStill, IsInPart, Leaves, LeavesFault, AttemptFor, OnAsked, OnMissed as OnStepMissed, OnUndone, TellsTried}
+use Rattle.o2_stepping.specs.Ran.{IsStill, IsInPart, LeavesFault, AttemptFor, OnAsked, OnMissed as OnStepMissed, OnUndone, TellsTried}
 use Rattle.o2_stepping.specs.declared.one_step.Attempt.{Attempt}
 use Rattle.o2_stepping.specs.declared.one_step.Attempt.TheVariants as attempt
 use Rattle.o2_stepping.specs.declared.one_step.Stepped.TheVariants as one
 use Rattle.o2_stepping.proofs.Leaving.{effect_by, in_part}
-use Rattle.o2_stepping.proofs.Selectors.{call_stays}
 
 -- The instruction.
 
@@ -96,44 +93,43 @@ module _ (f : Filling) (number : ℕ) (input : List ℕ) (known : Known) (servic
     by_answer = subst (λ (z : Called). does_at (Ok z) (state old v)) is does
 
   -- a fault of the call is one of the step
-  pub fault_by : (v : View) (old : Cpu) (x : Fault) → IsPlain (row_of service) → let b = before_call (boundless f v) number old input known in
+  pub fault_by : (v : View) (old : Cpu) (x : Fault) → let b = before_call (boundless f v) number old input known in
       stepped (state old (boundless f v)) ≡ Err (stop.Gate service next) → CauseOf (Unit {0}) (service ≡ 3) ⊥ ⊥ x
       → FaultsFor (asks b ≡ true) b (serviced b service next) cpu v new i j c d r q x
       → LeavesFault b (effect b) cpu (whole f v).bytes (whole f new).bytes i j c d r q x
-  fault_by v old fault.Sink plain step read part =
+  fault_by v old fault.Sink step read part =
       let b = before_call (boundless f v) number old input known in
       subst (λ (e : Effect). IsInPart e cpu old (whole f v).bytes (whole f new).bytes i j c d r q) (sym (effect_by b (Err (stop.Gate service next)) step))
       (in_part b (serviced b service next) cpu old (whole f v).bytes (whole f new).bytes i j c d r q
-      (record { cpu = part.cpu; bytes = whole_same f v new part.view; input = part.input; to_console = part.to_console; to_report = part.to_report; in_order = part.in_order; selectors = call_stays b service next plain; changes = served_quiet (row_of service) b next plain }))
-  fault_by v old (fault.Stopped halt.Input) plain step read unread = record {
+      (record { cpu = part.cpu; bytes = whole_same f v new part.view; input = part.input; to_console = part.to_console; to_report = part.to_report; in_order = part.in_order; selectors = part.selectors; changes = part.changes }))
+  fault_by v old (fault.Stopped halt.Input) step read unread = record {
     cause = record { next = next; calls = step ∙ ap (λ (n : ℕ). Err (stop.Gate n next)) read; asks_it = unread.cause };
     still = still_of f cpu old v new i j c d r q unread.untouched;
   }
-  fault_by v old (fault.Stopped halt.NoRoom) plain step read never = absurd never
-  fault_by v old (fault.Stopped halt.SwapFull) plain step read never = absurd never
-  fault_by v old (fault.Stopped halt.SwapFault) plain step read never = absurd never
+  fault_by v old (fault.Stopped halt.NoRoom) step read never = absurd never
+  fault_by v old (fault.Stopped halt.SwapFull) step read never = absurd never
+  fault_by v old (fault.Stopped halt.SwapFault) step read never = absurd never
 
 pub missed_by : (v : View) (x : Called) (s : Selector) → x ≡ Missed s → OnMissed (Ok x) (λ t. IsAway v t) → IsAway v s
 missed_by v x s is away = subst (λ (y : Called). OnMissed (Ok y) (λ t. IsAway v t)) is away
 
-pub missed_of : (P : Selector → Type 0) (x : Called) (s : Selector) → x ≡ Missed s → OnMissed (Ok x) P → P s
-missed_of P x s is holds = subst (λ (y : Called). OnMissed (Ok y) P) is holds
+pub undone_missed : (P : Type 0) (x : Called) (s : Selector) → x ≡ Missed s → OnUndoneCall (Ok x) P → P
+undone_missed P x s is holds = subst (λ (y : Called). OnUndoneCall (Ok y) P) is holds
 
--- A call on segments that is asked for, from the machine before the far CALL.
+pub undone_of : (P : Type 0) (x : Called) (a : Arguments) (next : ℕ) → x ≡ Asked a next → OnUndoneCall (Ok x) P → P
+undone_of P x a next is holds = subst (λ (y : Called). OnUndoneCall (Ok y) P) is holds
 
-module _ (f : Filling) (number : ℕ) (input : List ℕ) (known : Known) (call : AskedCall) (next : ℕ) (cpu : Cpu) (new : View) (i j c d r q : Option (List ℕ)) where
-  abbrev pub asks_at : Result Attempt Fault → Machine → Type 0
-  asks_at answer s =
-      let b = before_call (boundless f s.view) number s.cpu input known in
-      Leaves b (single_stepped b (served (row_for call) b next)) cpu (whole f s.view).bytes (whole f new).bytes i j c d r q answer
+-- A call on segments that is asked for, from the machine before the far CALL: the names that it passes are behind its pointers.
 
-  pub asks_from : (answer : Result Attempt Fault) (s t : Machine) → s ≡ t → asks_at answer s → asks_at answer t
-  asks_from answer s t same = subst (asks_at answer) same
+module _ (number : ℕ) (input : List ℕ) (known : Known) (f : Filling) (service : ℕ) (a : Arguments) where
+  abbrev pub points_at : Machine → Type 0
+  points_at s = call_names (before_call (boundless f s.view) number s.cpu input known) (row_of service) ≡ pointed (boundless f s.view) (targets a)
 
--- the service by its row
-pub asks_by : (b : Before) (service next : ℕ) (call : AskedCall) → row_of service ≡ Some (row_for call) → stepped (state b.cpu b.view) ≡ Err (stop.Gate service next)
-    → effect b ≡ single_stepped b (served (row_for call) b next)
-asks_by b service next call row calls = effect_by b (Err (stop.Gate service next)) calls ∙ ap (λ (o : Option Row). single_stepped b (served_by o b next)) row
+  pub points_from : (s t : Machine) → s ≡ t → points_at s → points_at t
+  points_from s t same = subst points_at same
+
+pub asked_of : (P : Arguments → Type 0) (x : Called) (a : Arguments) (next : ℕ) → x ≡ Asked a next → OnAskedCall (Ok x) P → P a
+asked_of P x a next is holds = subst (λ (y : Called). OnAskedCall (Ok y) P) is holds
 
 -- Attempts.
 
@@ -148,7 +144,7 @@ none_missed (Ok (attempt.Stepped x)) P e = tt
 none_missed (Ok (attempt.Missed s)) P e = absurd e
 none_missed (Err x) P e = tt
 
-pub none_asked : (r : Result Attempt Fault) (P : SegmentArguments → Type 0) → OnUndone r ⊥ → OnAsked r P
+pub none_asked : (r : Result Attempt Fault) (P : Arguments → Type 0) → OnUndone r ⊥ → OnAsked r P
 none_asked (Ok (attempt.Stepped (one.Ran ran))) P e = tt
 none_asked (Ok (attempt.Stepped (one.Asked a next))) P e = absurd e
 none_asked (Ok (attempt.Missed s)) P e = tt
@@ -160,7 +156,7 @@ map_undone P Q (Ok (attempt.Stepped (one.Asked a next))) f p = f p
 map_undone P Q (Ok (attempt.Missed s)) f p = f p
 map_undone P Q (Err x) f p = tt
 
-pub map_asked : (P Q : SegmentArguments → Type 0) (r : Result Attempt Fault) → ((a : SegmentArguments) → P a → Q a) → OnAsked r P → OnAsked r Q
+pub map_asked : (P Q : Arguments → Type 0) (r : Result Attempt Fault) → ((a : Arguments) → P a → Q a) → OnAsked r P → OnAsked r Q
 map_asked P Q (Ok (attempt.Stepped (one.Ran ran))) f p = tt
 map_asked P Q (Ok (attempt.Stepped (one.Asked a next))) f p = f a p
 map_asked P Q (Ok (attempt.Missed s)) f p = tt
@@ -173,7 +169,7 @@ all_tell v names (Ok (attempt.Missed s)) e here = absurd e
 all_tell v names (Err x) e here = here
 
 -- what holds where nothing is done yet and what holds of the call that is asked for, together
-pub both_asked : (P : Type 0) (Q R : SegmentArguments → Type 0) (r : Result Attempt Fault) → ((a : SegmentArguments) → P → Q a → R a) → OnUndone r P → OnAsked r Q → OnAsked r R
+pub both_asked : (P : Type 0) (Q R : Arguments → Type 0) (r : Result Attempt Fault) → ((a : Arguments) → P → Q a → R a) → OnUndone r P → OnAsked r Q → OnAsked r R
 both_asked P Q R (Ok (attempt.Stepped (one.Ran ran))) f p q = tt
 both_asked P Q R (Ok (attempt.Stepped (one.Asked a next))) f p q = f a p q
 both_asked P Q R (Ok (attempt.Missed s)) f p q = tt

@@ -22,12 +22,12 @@ use Rattle.o2_world.specs.declared.types.State.{State}
 
 -- what a call has made, as a step that is done
 pub done_by : (f : Filling) (e : Effect) (ends : State) (tally : Tally) (cpu : Cpu) (new : View) (j c d r q : Option (List ℕ))
-    → e.changes ≡ [] → IsMade f e ends tally.bytes tally.lines cpu new j c d r q → IsDone e (record { state = ends; tally = tally; whole = true }) cpu (whole f new).bytes j c d r q
-done_by f e ends tally cpu new j c d r q quiet made = record {
+    → IsMade f e ends tally.bytes tally.lines cpu new j c d r q → IsDone e (record { state = ends; tally = tally; whole = true }) cpu (whole f new).bytes j c d r q
+done_by f e ends tally cpu new j c d r q made = record {
   state = made.state;
   ends = λ late. absurd (cc);
   puts = record { bytes = made.piece; lines = made.lines };
-  changes = quiet;
+  changes = made.changes;
   cpu = made.cpu;
   bytes = made.bytes;
   input = made.input;

@@ -1,6 +1,7 @@
 -- A step touches few names, and each try finds one more of them.
-use Rattle.std.proofs.Common.{◌≡◌, ℕ, ◌+◌, ◌≤◌, ◌==◌, ◌||◌, ◌&&◌, nat_le, Bool, true, false, cond, List, [], ◌∷◌, ◌++◌, length, Option, Some, None, ap, sym, ◌∙◌, refl, arith, length-append}
+use Rattle.std.proofs.Common.{◌≡◌, ℕ, suc, ◌+◌, ◌≤◌, ◌==◌, ◌||◌, ◌&&◌, nat_le, Bool, true, false, cond, List, [], ◌∷◌, ◌++◌, length, Option, Some, None, ap, sym, ◌∙◌, refl, arith, length-append}
 use Rattle.std.specs.Prelude.{Result, Ok, Err, if◌then◌else◌}
+use Rattle.std.specs.List.{list_all}
 use Rattle.std.proofs.lemmas.Bool.{false≢true}
 use Rattle.o2_isa.specs.View.{View, Hold, bound_in}
 use Rattle.o2_isa.specs.Pointers.{is_for_es}
@@ -11,17 +12,14 @@ use Rattle.o2_isa.specs.declared.cpu.Stop.{Stop}
 use Rattle.o2_isa.specs.declared.cpu.Stop.TheVariants as stop
 use Rattle.o2_isa.proofs.StepLaws.{step_loads_few}
 use Rattle.o2_place.specs.declared.seg_id.SegId.{SegId}
-use Rattle.o2_world.specs.declared.types.Row.{Row}
-use Rattle.o2_world.specs.declared.types.Row.TheVariants.{DosExit, DosGetPid, DosRead, DosWrite, DosMemAvail, OnSegments, OnShared, OnRuns}
-use Rattle.o2_world.specs.declared.types.SegmentCall.{SegmentCall}
-use Rattle.o2_world.specs.declared.types.SegmentCall.TheVariants.{DosAllocSeg, DosReallocSeg, DosFreeSeg, DosSizeSeg, DosLockSeg, DosUnlockSeg, DosCreateCsAlias}
-use Rattle.o2_world.specs.declared.types.HugeCall.{HugeCall}
-use Rattle.o2_world.specs.declared.types.HugeCall.TheVariants.{DosAllocHuge, DosReallocHuge, DosGetHugeShift}
-use Rattle.o2_world.specs.declared.types.SharedCall.{SharedCall}
-use Rattle.o2_world.specs.declared.types.SharedCall.TheVariants.{DosAllocShrSeg, DosGetShrSeg, DosGiveSeg, DosGetSeg}
-use Rattle.o2_world.specs.Calls.{Before, argument, has_arguments, row_of}
-use Rattle.o2_world.specs.Words.{words_of}
-use Rattle.o2_run.specs.Room.{Pointer, call_names, gate_names, huge_pointers, passed, pointed, pointers_of, segment_pointers, shared_pointers, touched}
+use Rattle.o2_world.specs.declared.types.Slot.{Slot}
+use Rattle.o2_world.specs.declared.types.Slot.TheVariants.{Word, Reads, Writes, Text, ToWord, ToLong, ToWords}
+use Rattle.o2_world.specs.Calls.{Before, argument, has_arguments, row_of, rows}
+use Rattle.o2_world.specs.Outcomes.{CallRow}
+use Rattle.o2_world.specs.RowLaws.{EachRow}
+use Rattle.o2_world.specs.Slots.{Pointer, pointers_in, words_in}
+use Rattle.o2_world.proofs.Rows.{by_rows, each_entry}
+use Rattle.o2_run.specs.Room.{call_names, gate_names, passed, pointed, touched}
 use Rattle.o2_stepping.specs.Rooms.{ages_of, left_in}
 use Rattle.o2_stepping.proofs.Named.{both_in}
 
@@ -45,49 +43,61 @@ pointed_few : (v : View) (ps : List Pointer) → length (pointed v ps) ≤ lengt
 pointed_few v [] = omega arith
 pointed_few v (p ∷ ps) = counted_few v p ps (pointed_few v ps) (p.count == 0)
 
-few_on_segments : (call : SegmentCall) (a : ℕ → ℕ) → length (segment_pointers call a) ≤ 2
-few_on_segments DosAllocSeg a = omega arith
-few_on_segments DosReallocSeg a = omega arith
-few_on_segments DosFreeSeg a = omega arith
-few_on_segments DosSizeSeg a = omega arith
-few_on_segments DosLockSeg a = omega arith
-few_on_segments DosUnlockSeg a = omega arith
-few_on_segments DosCreateCsAlias a = omega arith
+-- how many pointers there are among a call's arguments
+abbrev pointer_count : List Slot → ℕ
+pointer_count [] = 0
+pointer_count (Word ∷ ss) = pointer_count ss
+pointer_count (Reads ∷ ss) = suc (pointer_count ss)
+pointer_count (Writes ∷ ss) = suc (pointer_count ss)
+pointer_count (Text ∷ ss) = suc (pointer_count ss)
+pointer_count (ToWord ∷ ss) = suc (pointer_count ss)
+pointer_count (ToLong ∷ ss) = suc (pointer_count ss)
+pointer_count (ToWords count ∷ ss) = suc (pointer_count ss)
 
-few_on_runs : (call : HugeCall) (a : ℕ → ℕ) → length (huge_pointers call a) ≤ 2
-few_on_runs DosAllocHuge a = omega arith
-few_on_runs DosReallocHuge a = omega arith
-few_on_runs DosGetHugeShift a = omega arith
+counted : (ss : List Slot) (v : View) (a : ℕ → ℕ) → length (pointers_in ss v a) ≡ pointer_count ss
+counted [] v a = refl
+counted (Word ∷ ss) v a = counted ss v a
+counted (Reads ∷ ss) v a = ap suc (counted ss v a)
+counted (Writes ∷ ss) v a = ap suc (counted ss v a)
+counted (Text ∷ ss) v a = ap suc (counted ss v a)
+counted (ToWord ∷ ss) v a = ap suc (counted ss v a)
+counted (ToLong ∷ ss) v a = ap suc (counted ss v a)
+counted (ToWords count ∷ ss) v a = ap suc (counted ss v a)
 
-few_on_shared : (call : SharedCall) (v : View) (a : ℕ → ℕ) → length (shared_pointers call v a) ≤ 2
-few_on_shared DosAllocShrSeg v a = omega arith
-few_on_shared DosGetShrSeg v a = omega arith
-few_on_shared DosGiveSeg v a = omega arith
-few_on_shared DosGetSeg v a = omega arith
+-- the table as a whole
+abbrev few_there : CallRow → Bool
+few_there r = nat_le (pointer_count r.slots) 2
 
-few_pointers : (row : Row) (v : View) (a : ℕ → ℕ) → length (pointers_of row v a) ≤ 2
-few_pointers DosExit v a = omega arith
-few_pointers DosGetPid v a = omega arith
-few_pointers DosRead v a = omega arith
-few_pointers DosWrite v a = omega arith
-few_pointers DosMemAvail v a = omega arith
-few_pointers (OnSegments call) v a = few_on_segments call a
-few_pointers (OnShared call) v a = few_on_shared call v a
-few_pointers (OnRuns call) v a = few_on_runs call a
-
-call_few : (b : Before) (o : Option Row) → length (call_names b o) ≤ 2
-call_few b None = omega arith
-call_few b (Some row) = go (has_arguments b.view b.cpu (words_of row))
+each_by : (rs : List (ℕ × CallRow)) → list_all (λ (e : ℕ × CallRow). few_there e.1) rs ≡ true → EachRow (λ (r : CallRow). pointer_count r.slots ≤ 2) rs
+each_by [] all = tt
+each_by (e ∷ es) all = go (few_there e.1) refl all (each_by es)
   where
-    go : (z : Bool) → length (cond z (pointed b.view (pointers_of row b.view (argument b.view b.cpu))) []) ≤ 2
-    go true = (let a = pointed_few b.view (pointers_of row b.view (argument b.view b.cpu)) in let c = few_pointers row b.view (argument b.view b.cpu) in omega (arith, a, c))
+    less : (n : ℕ) → nat_le n 2 ≡ true → n ≤ 2
+    less n e = grind arith
+
+    go : (b : Bool) → few_there e.1 ≡ b → (b && list_all (λ (x : ℕ × CallRow). few_there x.1) es) ≡ true
+        → (list_all (λ (x : ℕ × CallRow). few_there x.1) es ≡ true → EachRow (λ (r : CallRow). pointer_count r.slots ≤ 2) es)
+        → EachRow (λ (r : CallRow). pointer_count r.slots ≤ 2) (e ∷ es)
+    go true is rest later = (less (pointer_count e.1.slots) is, later rest)
+    go false is rest later = absurd (false≢true rest)
+
+row_few : (b : Before) (service : ℕ) (r : CallRow) → pointer_count r.slots ≤ 2 → length (call_names b (Some r)) ≤ 2
+row_few b service r few = go (has_arguments b.view b.cpu (words_in r.slots))
+  where
+    go : (z : Bool) → length (cond z (pointed b.view (pointers_in r.slots b.view (argument b.view b.cpu))) []) ≤ 2
+    go true = (let a = pointed_few b.view (pointers_in r.slots b.view (argument b.view b.cpu)) in let c = counted r.slots b.view (argument b.view b.cpu) in omega (arith, a, c, few))
     go false = omega arith
+
+call_few : (b : Before) (service : ℕ) → length (call_names b (row_of service)) ≤ 2
+call_few b service =
+    by_rows (λ (o : Option CallRow). length (call_names b o) ≤ 2) (omega arith)
+    (each_entry (λ (n : ℕ) (r : CallRow). pointer_count r.slots ≤ 2) (λ (n : ℕ) (r : CallRow). length (call_names b (Some r)) ≤ 2) (row_few b) rows (each_by rows refl)) service
 
 gate_few : (b : Before) (r : Result Machine Stop) → length (gate_names b r) ≤ 2
 gate_few b (Ok s) = omega arith
 gate_few b (Err (stop.Miss s)) = omega arith
 gate_few b (Err (stop.Trap vector code)) = omega arith
-gate_few b (Err (stop.Gate service next)) = call_few b (row_of service)
+gate_few b (Err (stop.Gate service next)) = call_few b service
 
 pub touched_few : (b : Before) → length (touched b) ≤ 3
 touched_few b =

@@ -13,8 +13,8 @@ pub mod Rounds
 pub mod Steps
 pub mod Puts
 pub mod Reading
-pub mod Selectors
 pub mod NextRooms
 pub mod Here
 pub mod ReplyLines
 pub mod Asked
+pub mod Seated

@@ -10,7 +10,8 @@ use Rattle.o2_run.specs.declared.fault.Fault.{Fault}
 use Rattle.o2_run.specs.declared.fault.Fault.TheVariants as fault
 use Rattle.o2_run.specs.Pieces.{Counts, counts, Hands, HandsUpTo, SinkHands, PartHands, puts_of}
 use Rattle.o2_gate.specs.declared.called.Called.{Called}
-use Rattle.o2_gate.specs.declared.called.Called.TheVariants.{Back, Exited, Trap}
+use Rattle.o2_gate.specs.declared.called.Called.TheVariants.{Asked, Back, Exited, Trap}
+use Rattle.o2_gate.specs.declared.arguments.Arguments.{Arguments}
 use Rattle.o2_gate.specs.Pieces.{CallHands}
 use Rattle.o2_stepping.specs.Pieces.{StepHands, AttemptHands}
 use Rattle.o2_stepping.specs.Taken.{IsSwapStop}
@@ -29,6 +30,9 @@ module _ (n : Counts) (x : Called) (hands : CallHands n (Ok x)) where
 
   pub trap_hands : (vector code : ℕ) → x ≡ Trap vector code → Hands n 0 0
   trap_hands vector code is = subst (λ (y : Called). CallHands n (Ok y)) is hands
+
+  pub asked_hands : (a : Arguments) (next : ℕ) → x ≡ Asked a next → Hands n 0 0
+  asked_hands a next is = subst (λ (y : Called). CallHands n (Ok y)) is hands
 
 pub fault_hands : (n : Counts) (f : Fault) → CallHands n (Err f) → AttemptHands n (Err f)
 fault_hands n fault.Sink h = tt

@@ -13,11 +13,12 @@ use Rattle.o2_world.specs.declared.types.State.TheVariants.{Live, Trapped}
 use Rattle.o2_world.specs.Effect.{has_trap_flag}
 use Rattle.o2_world.specs.Text.{line_text, lines_text}
 use Rattle.o2_world.specs.World.{Line, Traps}
-use Rattle.o2_gate.specs.declared.gathering.SegmentArguments.{SegmentArguments}
+use Rattle.o2_gate.specs.declared.arguments.Arguments.{Arguments}
 use Rattle.o2_world.specs.Rulings.{indexes}
 use Rattle.o2_gate.specs.declared.moves.Block.{Block}
 use Rattle.o2_gate.specs.MovedLines.{all_lines, block_lines, line_at, line_number, lines_at}
-use Rattle.o2_gate.specs.Replies.{lines_of, name_of}
+use Rattle.o2_gate.specs.Replies.{lines_of}
+use Rattle.o2_gate.specs.Targets.{name_of}
 use Rattle.o2_gate.proofs.MovedLines.{indexes_length}
 use Rattle.o2_run.specs.Pieces.{Counts, counts}
 use Rattle.o2_stepping.specs.Pieces.{HandsWhole}
@@ -48,7 +49,7 @@ blocks_number cause (b ∷ bs) =
     let sums = sum_by-cons (λ (n : ℕ). n) (b.count * b.holds) (map (λ (x : Block). x.count * x.holds) bs) in
     omega (arith, whole, one, rest, sums))
 
-pub call_lines : (a : SegmentArguments) (pid error value : ℕ) (bs : List Block) → 1 + line_number bs ≡ length (lines_of a pid error value bs)
+pub call_lines : (a : Arguments) (pid error value : ℕ) (bs : List Block) → 1 + line_number bs ≡ length (lines_of a pid error value bs)
 call_lines a pid error value bs = (let e = blocks_number (name_of a) bs in omega (arith, e))
 
 -- They are put, and nothing more.

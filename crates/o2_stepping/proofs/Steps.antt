@@ -19,7 +19,7 @@ use Rattle.o2_swapmap.specs.Piles.{all_of}
 use Rattle.o2_store.specs.Loads.{live_load, swap_load}
 use Rattle.o2_store.proofs.Loads.{same_live_load, same_swap_load}
 use Rattle.o2_stepping.specs.Shapes.{SameShape}
-use Rattle.o2_gate.specs.declared.gathering.SegmentArguments.{SegmentArguments}
+use Rattle.o2_gate.specs.declared.arguments.Arguments.{Arguments}
 use Rattle.o2_stepping.specs.Ran.{OnAsked, OnAsking, OnMissed, OnUndone, StepFor, StepLeaves}
 use Rattle.o2_stepping.specs.Taken.{OnRan, OnBegunFault, OnSwapFault, OnSwapStop, TriedFor, Tries}
 use Rattle.o2_stepping.specs.Worlds.{before_in, bytes_with, world_view}
@@ -109,12 +109,12 @@ pub ran_cause : (A B : Type 0) (z : Attempt) (ran : Stepped) → z ≡ attempt.S
 ran_cause A B z ran is h = subst (λ (w : Attempt). TriedFor A B (Ok w)) is h
 
 -- what holds of a call on segments that is asked for
-pub asked_at : (P : SegmentArguments → Type 0) (z : Attempt) (ran : Stepped) → z ≡ attempt.Stepped ran → OnAsked (Ok z) P → OnAsking ran P
+pub asked_at : (P : Arguments → Type 0) (z : Attempt) (ran : Stepped) → z ≡ attempt.Stepped ran → OnAsked (Ok z) P → OnAsking ran P
 asked_at P z ran is h = subst (λ (w : Attempt). OnAsked (Ok w) P) is h
 
 pub asks_at : (P : Type 0) (z : Attempt) (ran : Stepped) → z ≡ attempt.Stepped ran → OnUndone (Ok z) P → OnAsking ran (λ a. P)
 asks_at P z ran is h = subst (λ (w : Attempt). OnUndone (Ok w) P) is h
 
-pub map_asking : (P Q : SegmentArguments → Type 0) (x : Stepped) → ((a : SegmentArguments) → P a → Q a) → OnAsking x P → OnAsking x Q
+pub map_asking : (P Q : Arguments → Type 0) (x : Stepped) → ((a : Arguments) → P a → Q a) → OnAsking x P → OnAsking x Q
 map_asking P Q (stepped.Ran ran) f p = tt
 map_asking P Q (stepped.Asked a next) f p = f a p

@@ -19,9 +19,6 @@ use Rattle.o2_isa.specs.Presence.{with_unseen, unseen, whole_state, loaded_names
 use Rattle.o2_isa.specs.Step.{steps_at, stepped, step_names}
 use Rattle.o2_isa.proofs.Alike.{read_unseen}
 use Rattle.o2_world.specs.Known.{Known}
-use Rattle.o2_world.specs.declared.types.Row.{Row}
-use Rattle.o2_gate.specs.declared.gathering.AskedCall.{AskedCall}
-use Rattle.o2_gate.specs.Gathers.{row_for}
 use Rattle.o2_world.specs.Calls.{Before, row_of}
 use Rattle.o2_run.specs.Room.{touched, gate_names, call_names}
 use Rattle.o2_gate.specs.Befores.{boundless, before_call}
@@ -29,9 +26,6 @@ use Rattle.o2_gate.specs.Pointed.{ArePresent}
 use Rattle.o2_gate.specs.Names.{TellsNames}
 use Rattle.o2_gate.specs.declared.called.Called.{Called}
 use Rattle.o2_run.specs.declared.fault.Fault.{Fault}
-use Rattle.o2_stepping.specs.Ran.{OnMissed as OnStepMissed, TellsTried, is_missed}
-use Rattle.o2_stepping.specs.declared.one_step.Attempt.{Attempt}
-use Rattle.o2_stepping.specs.declared.one_step.Attempt.TheVariants as attempt
 
 -- What no instruction sees doesn't matter for the names that a step loads.
 
@@ -173,30 +167,3 @@ module _ (number : ℕ) (input : List ℕ) (known : Known) (service : ℕ) where
 
   pub told_by : (x y : Called) (s t : Machine) → x ≡ y → s ≡ t → Tells s (Ok x) → Tells t (Ok y)
   told_by x y s t is same tells = subst (λ (z : Called). Tells t (Ok z)) is (told_before (Ok x) s t same tells)
-
--- What a call on segments that is asked for tells of its names.
-
-module _ (number : ℕ) (input : List ℕ) (known : Known) (which : AskedCall) where
-  abbrev pub TellsAsked : Machine → Result Attempt Fault → Type 0
-  TellsAsked s r = TellsTried s.view (λ f. call_names (before_call (boundless f s.view) number s.cpu input known) (Some (row_for which))) r
-
-  pub asked_before : (r : Result Attempt Fault) (s t : Machine) → s ≡ t → TellsAsked s r → TellsAsked t r
-  asked_before r s t same = subst (λ (x : Machine). TellsAsked x r) same
-
-  module _ (f : Filling) (v : View) (c : Cpu) (service next : ℕ) (calls : stepped (state c (boundless f v)) ≡ Err (stop.Gate service next)) (row : row_of service ≡ Some (row_for which)) where
-    abbrev b : Before
-    b = start f v c number input known
-
-    pub asked_missed : (r : Result Attempt Fault) → TellsAsked (state c v) r → OnStepMissed r (λ s. IsMissed v s (touched b))
-    asked_missed (Ok (attempt.Missed s)) tells =
-        call_missed f v c number input known service next calls s (subst (λ (o : Option Row). IsMissed v s (call_names b o)) (sym row) (tells f))
-    asked_missed (Ok (attempt.Stepped x)) tells = tt
-    asked_missed (Err x) tells = tt
-
-    present_by : ArePresent v (step_names (whole_state f (state c v))) → ArePresent v (call_names b (Some (row_for which))) → ArePresent v (touched b)
-    present_by here names = call_present f v c number input known service next calls here (subst (λ (o : Option Row). ArePresent v (call_names b o)) (sym row) names)
-
-    pub asked_present : (r : Result Attempt Fault) → is_missed r ≡ false → ArePresent v (step_names (whole_state f (state c v))) → TellsAsked (state c v) r → ArePresent v (touched b)
-    asked_present (Ok (attempt.Missed s)) never here tells = absurd (cc)
-    asked_present (Ok (attempt.Stepped x)) never here tells = present_by here (tells f)
-    asked_present (Err x) never here tells = present_by here (tells f)

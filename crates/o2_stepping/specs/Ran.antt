@@ -9,12 +9,11 @@ use Rattle.o2_isa.specs.declared.cpu.Stop.TheVariants.{Gate}
 use Rattle.o2_isa.specs.Step.{stepped}
 use Rattle.o2_isa.specs.Steps.{state}
 use Rattle.o2_world.specs.World.{is_live}
-use Rattle.o2_gate.specs.declared.gathering.AskedCall.{AskedCall}
-use Rattle.o2_world.specs.Calls.{Before, Effect, row_of, served}
+use Rattle.o2_world.specs.Calls.{Before, Effect, row_of, serviced}
 use Rattle.o2_world.specs.Effect.{AsksInput, single_stepped}
 use Rattle.o2_world.specs.Text.{lines_text}
-use Rattle.o2_gate.specs.declared.gathering.SegmentArguments.{SegmentArguments}
-use Rattle.o2_gate.specs.Gathers.{asked, row_for, targets}
+use Rattle.o2_gate.specs.declared.arguments.Arguments.{Arguments}
+use Rattle.o2_gate.specs.Targets.{asked, targets}
 use Rattle.o2_gate.specs.Pointed.{ArePresent}
 use Rattle.o2_run.specs.declared.steps.Stop.TheVariants as stop
 use Rattle.o2_run.specs.declared.fault.Fault.{Fault}
@@ -75,17 +74,16 @@ pub record IsInPart (e : Effect) (registers before : Cpu) (old new : ℕ → Lis
   pub selectors : SameSelectors e.cpu before
   pub changes : e.changes ≡ []
 
--- the step comes to the gate of a call on segments, whose row is that of these arguments, and so are the names that it passes
-pub record IsCallOf (b : Before) (a : SegmentArguments) (next : ℕ) : Type 0 where
+-- the step comes to the gate of a call on segments, which is that with these arguments, and so are the names that it passes
+pub record IsCallOf (b : Before) (a : Arguments) (next : ℕ) : Type 0 where
   pub service : ℕ
-  pub call : AskedCall
-  pub gate : stepped (state b.cpu b.view) ≡ Err (Gate service next)
-  pub row : row_of service ≡ Some (row_for call)
-  pub asks : served (row_for call) b next ≡ asked a b next
-  pub points : call_names b (Some (row_for call)) ≡ pointed b.view (targets a)
+  pub from : ℕ
+  pub gate : stepped (state b.cpu b.view) ≡ Err (Gate service from)
+  pub asks : serviced b service from ≡ asked a b next
+  pub points : call_names b (row_of service) ≡ pointed b.view (targets a)
 
 -- the step is a call on segments with these arguments, whose pointer is good; nothing is changed, taken or put yet
-pub record IsAsked (b : Before) (e : Effect) (a : SegmentArguments) (next : ℕ) (registers : Cpu) (old new : ℕ → List ℕ)
+pub record IsAsked (b : Before) (e : Effect) (a : Arguments) (next : ℕ) (registers : Cpu) (old new : ℕ → List ℕ)
     (left_old left_new console_old console_new report_old report_new : Option (List ℕ)) : Type 0 where
   pub effect : e ≡ single_stepped b (asked a b next)
   pub called : IsCallOf b a next
@@ -126,11 +124,11 @@ OnMissed (Ok (attempt.Stepped x)) P = Unit {0}
 OnMissed (Err f) P = Unit {0}
 
 -- where a call on segments is asked for
-abbrev pub OnAsking : Stepped → (SegmentArguments → Type 0) → Type 0
+abbrev pub OnAsking : Stepped → (Arguments → Type 0) → Type 0
 OnAsking (stepped.Asked a next) P = P a
 OnAsking (stepped.Ran ran) P = Unit {0}
 
-abbrev pub OnAsked : Result Attempt Fault → (SegmentArguments → Type 0) → Type 0
+abbrev pub OnAsked : Result Attempt Fault → (Arguments → Type 0) → Type 0
 OnAsked (Ok (attempt.Stepped x)) P = OnAsking x P
 OnAsked (Ok (attempt.Missed s)) P = Unit {0}
 OnAsked (Err f) P = Unit {0}

@@ -1,5 +1,5 @@
 -- What a step needs in the memory of a store.
-use Rattle.std.specs.Prelude.{◌≡◌, ℕ, ◌+◌, List, [], ◌∷◌, ◌++◌, length, ◌||◌, nat_lt, if◌then◌else◌, Option, Some, None, true, false}
+use Rattle.std.specs.Prelude.{◌≡◌, ℕ, ◌+◌, List, [], ◌∷◌, ◌++◌, length, map, ◌||◌, nat_lt, if◌then◌else◌, Option, Some, None, true, false}
 use Rattle.o2_base.specs.declared.selector.Selector.{Selector}
 use Rattle.o2_isa.specs.View.{Registers}
 use Rattle.o2_service.specs.Needs.{needs}
@@ -12,13 +12,10 @@ use Rattle.o2_regions.specs.Maps.{Maps}
 use Rattle.o2_store.specs.Shelf.{Shelf, entry, rounded}
 use Rattle.o2_segbus.specs.Bus.{held_under}
 use Rattle.o2_world.specs.Calls.{Before}
-use Rattle.o2_gate.specs.declared.gathering.SegmentArguments.{SegmentArguments}
-use Rattle.o2_gate.specs.declared.huge.HugeArguments.{HugeArguments}
-use Rattle.o2_gate.specs.declared.huge.HugeArguments.TheVariants as huge
-use Rattle.o2_gate.specs.declared.sharing.SharedArguments.{SharedArguments}
-use Rattle.o2_gate.specs.declared.sharing.SharedArguments.TheVariants.{Name, Share, Give, Get}
-use Rattle.o2_gate.specs.declared.gathering.SegmentArguments.TheVariants.{Alloc, Realloc, Free, Size, Lock, Unlock, Alias, Shared, Huge}
+use Rattle.o2_gate.specs.declared.arguments.Arguments.{Arguments}
+use Rattle.o2_gate.specs.Targets.{targets}
 use Rattle.o2_run.specs.Room.{seated, touched}
+use Rattle.o2_world.specs.Slots.{Pointer}
 
 -- the names that a step needs, as far as they are known before it: those in the segment registers, and those that it touches
 abbrev pub needed_names : Before → List ℕ
@@ -42,30 +39,18 @@ abbrev pub seated_in : Maps → ℕ → Cpu → List (SegId × ℕ)
 seated_in m pid c =
     pair_of (held_under m pid c.es) ++ pair_of (held_under m pid c.cs) ++ pair_of (held_under m pid c.ss) ++ pair_of (held_under m pid c.ds)
 
--- those behind the pointers of a call by which processes share segments
-abbrev pub shared_aimed : Maps → ℕ → SharedArguments → List (SegId × ℕ)
-shared_aimed m pid (Name size t s o) = pair_of (held_under m pid t.selector) ++ pair_of (held_under m pid s)
-shared_aimed m pid (Share t s o) = pair_of (held_under m pid t.selector) ++ pair_of (held_under m pid s)
-shared_aimed m pid (Give selector to s o) = pair_of (held_under m pid s)
-shared_aimed m pid (Get selector) = []
+-- those under selectors
+abbrev pub under_all : Maps → ℕ → List ℕ → List (SegId × ℕ)
+under_all m pid [] = []
+under_all m pid (s ∷ ss) = pair_of (held_under m pid s) ++ under_all m pid ss
 
--- that behind the pointer of a call on a huge allocation
-abbrev pub huge_aimed : Maps → ℕ → HugeArguments → List (SegId × ℕ)
-huge_aimed m pid (huge.Alloc segs part s o most flags) = pair_of (held_under m pid s)
-huge_aimed m pid (huge.Realloc segs part selector) = []
-huge_aimed m pid (huge.Shift s o) = pair_of (held_under m pid s)
+-- the selectors of pointers
+abbrev pub selectors_of : List Pointer → List ℕ
+selectors_of ps = map (λ (p : Pointer). p.selector) ps
 
--- that behind the pointer of a call on segments
-abbrev pub aimed_in : Maps → ℕ → SegmentArguments → List (SegId × ℕ)
-aimed_in m pid (Alloc size s o flags) = pair_of (held_under m pid s)
-aimed_in m pid (Realloc size selector) = []
-aimed_in m pid (Free selector) = []
-aimed_in m pid (Size selector s o) = pair_of (held_under m pid s)
-aimed_in m pid (Lock selector) = []
-aimed_in m pid (Unlock selector) = []
-aimed_in m pid (Alias selector s o) = pair_of (held_under m pid s)
-aimed_in m pid (Shared a) = shared_aimed m pid a
-aimed_in m pid (Huge a) = huge_aimed m pid a
+-- those behind the pointers of a call
+abbrev pub aimed_in : Maps → ℕ → Arguments → List (SegId × ℕ)
+aimed_in m pid a = under_all m pid (selectors_of (targets a))
 
 -- the names that a step needed, behind it: those that it needed before, and those in its segment registers
 abbrev pub all_names : Before → (after : Registers) → List ℕ

@@ -12,7 +12,7 @@ use Rattle.o2_stepping.specs.declared.one_step.Attempt.{Attempt}
 use Rattle.o2_stepping.specs.declared.one_step.Attempt.TheVariants as attempt
 use Rattle.o2_stepping.specs.declared.one_step.Stepped.{Stepped}
 use Rattle.o2_stepping.specs.declared.one_step.Stepped.TheVariants as stepped
-use Rattle.o2_gate.specs.declared.gathering.SegmentArguments.{SegmentArguments}
+use Rattle.o2_gate.specs.declared.arguments.Arguments.{Arguments}
 
 -- a fault; before a step that lacks room, or whose swap device fails, all is as it was
 abbrev pub TakesFault : Before → Effect → Cpu → (old new : ℕ → List ℕ)
@@ -54,7 +54,7 @@ OnStep (Ok (stepped.Asked a next)) P done asked = P asked
 OnStep (Err f) P done asked = Unit {0}
 
 -- where a step asks for a call on segments
-abbrev pub OnAsks : Result Stepped Fault → (SegmentArguments → Type 0) → Type 0
+abbrev pub OnAsks : Result Stepped Fault → (Arguments → Type 0) → Type 0
 OnAsks (Ok x) P = OnAsking x P
 OnAsks (Err f) P = Unit {0}
 

@@ -15,7 +15,7 @@ ghost use Rattle.o2_stands.specs.Stands.{IsReady};
 ghost use Rattle.o2_world.specs.Known.{Known};
 ghost use Rattle.o2_world.specs.Effect.{effect};
 ghost use Rattle.o2_gate.specs.Befores.{IsKnown};
-ghost use Rattle.o2_gate.specs.Gathers.{targets};
+ghost use Rattle.o2_gate.specs.Targets.{targets};
 ghost use Rattle.o2_gate.specs.Pointed.{ArePresent, are_ready};
 ghost use Rattle.o2_run.specs.Pieces.{PartHands, counts};
 ghost use Rattle.o2_run.specs.Room.{touched};

@@ -12,10 +12,10 @@ ghost use Rattle.o2_world.specs.Known.{Known};
 ghost use Rattle.o2_world.specs.World.{Traps};
 ghost use Rattle.o2_world.specs.Text.{lines_text};
 ghost use Rattle.o2_world.specs.Effect.{effect, single_stepped, has_trap_flag as trap_flag_of};
-ghost use Rattle.o2_world.specs.Calls.{Before, Effect, row_of, served, trapped};
+ghost use Rattle.o2_world.specs.Calls.{Before, Effect, trapped};
 ghost use Rattle.o2_gate.specs.Befores.{boundless, before_call, IsKnown};
 ghost use Rattle.o2_gate.specs.Pointed.{IsAway, ArePresent, are_ready};
-ghost use Rattle.o2_gate.specs.Gathers.{row_for, targets};
+ghost use Rattle.o2_gate.specs.Targets.{targets};
 ghost use Rattle.o2_run.specs.Room.{call_names, touched};
 ghost use Rattle.o2_gate.specs.Called.{IsMade};
 ghost use Rattle.o2_bus.specs.Writes.{WritesHeld};
@@ -28,9 +28,7 @@ use o2_alu::is_set;
 use o2_base::Selector;
 use o2_bus::Ranges;
 use o2_cache::{DecodeCache, step_cached};
-use o2_gate::{
-    AskedCall, Called, Gathered, SegmentArguments, State as Services, asked_call, call, gather,
-};
+use o2_gate::{Arguments, Called, State as Services, call};
 use o2_isa::{Cpu, Flag, Outcome};
 use o2_outer::{Put, Sink, Source};
 use o2_report::{LineBuffer, set_traps};
@@ -56,10 +54,7 @@ pub enum Stepped {
     Ran(Ran),
     /// A call on segments that comes back to `next`: its arguments lie in SS, and its pointer is good. Nothing is changed, taken or
     /// put yet.
-    Asked {
-        arguments: SegmentArguments,
-        next: u16,
-    },
+    Asked { arguments: Arguments, next: u16 },
 }
 
 /// What an attempt at a step came to.
@@ -133,7 +128,7 @@ fn outlived<R: Sink>(
 ) -> Result<Attempt, Fault>
     requires few { tally.lines < 2 ^ 63 }
     ensures leaves { (f : Filling) (b : Before) (e : Effect) (cpu : Cpu) (old : ℕ → List ℕ) (new : View) (i j c d r : Option (List ℕ)) → b.number ≡ pid → b.cpu ≡ before.now
-        → IsMade f e State.Live tally.bytes tally.lines cpu new j c d r (R.taken report.old) → e.changes ≡ []
+        → IsMade f e State.Live tally.bytes tally.lines cpu new j c d r (R.taken report.old)
         → Leaves b (single_stepped b e) cpu old (whole f new).bytes i j c d r (R.taken report.new) result }
     ensures done { OnUndone result ⊥ }
     ensures count { R.faults report.old ≤ R.faults report.new }
@@ -186,43 +181,6 @@ pub fn absent<R: Sink>(
             tally: Tally { bytes: 0, lines: 1 },
             whole: true,
         }),
-    }
-}
-
-/// What a call on segments by process `pid` asks for, over a bus whose registers are those of `cpu`: its arguments, where they lie in
-/// SS and its pointer is good. An exception ends the process; nothing else is changed.
-fn ask<B: Ranges, R: Sink>(
-    which: AskedCall,
-    next: u16,
-    pid: u16,
-    cpu: &Cpu,
-    bus: &mut B,
-    line: &mut LineBuffer,
-    report: &mut R,
-) -> Result<Attempt, Fault>
-    ensures leaves { (f : Filling) (bytes : List ℕ) (known : Known) (i c : Option (List ℕ)) → IsBound (B.view bus.old) → i ≡ Some bytes
-        → let b = before_call (boundless f (B.view bus.old)) pid cpu.now bytes known in
-        (service : ℕ) → row_of service ≡ Some (row_for which) → stepped (state b.cpu b.view) ≡ Err (Gate service next)
-        → Leaves b (single_stepped b (served (row_for which) b next)) cpu.now (whole f (B.view bus.old)).bytes (whole f (B.view bus.new)).bytes
-        i i c c (R.taken report.old) (R.taken report.new) result }
-    ensures same { B.view bus.new ≡ B.view bus.old }
-    ensures ready { OnAsked result (λ a. are_ready (B.view bus.old) (targets a) ≡ true) }
-    ensures away { OnMissed result (λ s. IsAway (B.view bus.old) s) }
-    ensures names { (bytes : List ℕ) (known : Known) → IsBound (B.view bus.old)
-        → TellsTried (B.view bus.old)
-        (λ f. call_names (before_call (boundless f (B.view bus.old)) pid cpu.now bytes known) (Some (row_for which))) result }
-    ensures undone { OnUndone result (report.new ≡ report.old) }
-    ensures count { R.faults report.old ≤ R.faults report.new }
-    ensures cause { AttemptFor (Rose (R.faults report.old) (R.faults report.new)) ⊥ result }
-    ensures puts { (c : ℕ) → AttemptHands (counts c c (R.puts report.old) (R.puts report.new) 0) result }
-    ensures part { (f : Filling) (bytes : List ℕ) (known : Known) (c : ℕ) → IsBound (B.view bus.old)
-        → let b = before_call (boundless f (B.view bus.old)) pid cpu.now bytes known in
-        PartHands (single_stepped b (served (row_for which) b next)) (counts c c (R.puts report.old) (R.puts report.new) 0) result }
-{
-    match gather(which, cpu, bus) {
-        Gathered::Good(arguments) => Ok(Attempt::Stepped(Stepped::Asked { arguments, next })),
-        Gathered::Trap(vector) => trap(pid, vector, cpu, line, report),
-        Gathered::Missed(sel) => Ok(Attempt::Missed(sel)),
     }
 }
 
@@ -295,24 +253,24 @@ pub fn run_one<B: Ranges, I: Source, C: Sink, R: Sink>(
         }
         Outcome::Trap(vector, _) => trap(pid, vector, cpu, &mut services.line, report),
         Outcome::Miss(sel) => Ok(Attempt::Missed(sel)),
-        Outcome::Gate { service, next } => match asked_call(service) {
-            Some(which) => ask(which, next, pid, cpu, bus, &mut services.line, report),
-            None => match call(
-                service, next, pid, cpu, bus, services, input, console, report,
-            ) {
-                Err(fault) => Err(fault),
-                Ok(Called::Back(bytes)) => {
-                    let tally = Tally { bytes, lines: 1 };
-                    outlived(pid, &before, tally, &mut services.line, report)
-                }
-                Ok(Called::Exited(code)) => Ok(Attempt::Stepped(Stepped::Ran(Ran {
-                    state: State::Exited(code),
-                    tally: Tally { bytes: 0, lines: 2 },
-                    whole: true,
-                }))),
-                Ok(Called::Trap(vector, _)) => trap(pid, vector, cpu, &mut services.line, report),
-                Ok(Called::Missed(sel)) => Ok(Attempt::Missed(sel)),
-            },
+        Outcome::Gate { service, next } => match call(
+            service, next, pid, cpu, bus, services, input, console, report,
+        ) {
+            Err(fault) => Err(fault),
+            Ok(Called::Back(bytes)) => {
+                let tally = Tally { bytes, lines: 1 };
+                outlived(pid, &before, tally, &mut services.line, report)
+            }
+            Ok(Called::Exited(code)) => Ok(Attempt::Stepped(Stepped::Ran(Ran {
+                state: State::Exited(code),
+                tally: Tally { bytes: 0, lines: 2 },
+                whole: true,
+            }))),
+            Ok(Called::Trap(vector, _)) => trap(pid, vector, cpu, &mut services.line, report),
+            Ok(Called::Missed(sel)) => Ok(Attempt::Missed(sel)),
+            Ok(Called::Asked { arguments, next }) => {
+                Ok(Attempt::Stepped(Stepped::Asked { arguments, next }))
+            }
         },
     }
 }

@@ -2,7 +2,7 @@
 ghost use Rattle.std.specs.Prelude.{◌≡◌, ◌≤◌, ◌*◌, ◌^◌, ◌++◌, ℕ, false, length};
 ghost use Rattle.o2_outer.specs.Texts.{Rose};
 ghost use Rattle.o2_world.specs.Text.{lines_text};
-ghost use Rattle.o2_gate.specs.declared.gathering.SegmentArguments.{SegmentArguments as ArgumentsThere};
+ghost use Rattle.o2_gate.specs.declared.arguments.Arguments.{Arguments as ArgumentsThere};
 ghost use Rattle.o2_gate.specs.MovedLines.{AreInside, line_number};
 ghost use Rattle.o2_gate.specs.Replies.{IsValue, lines_of};
 ghost use Rattle.o2_run.specs.Pieces.{counts};
@@ -12,7 +12,7 @@ ghost use Rattle.o2_stepping.specs.Replied.{state_behind, trap_lines};
 
 use crate::one_step::{Ran, has_trap_flag, put_trap};
 use crate::tally::Tally;
-use o2_gate::{Block, Moves, SegmentArguments, put_reply};
+use o2_gate::{Arguments, Block, Moves, put_reply};
 use o2_isa::Cpu;
 use o2_outer::{Put, Sink};
 use o2_regions::Answer;
@@ -44,7 +44,7 @@ fn line_count(moves: &Moves) -> u64
 // Puts the lines of the call and nothing more; whether they were put whole.
 fn put_lines<R: Sink>(
     pid: u16,
-    arguments: SegmentArguments,
+    arguments: Arguments,
     answer: &Answer,
     moves: &Moves,
     line: &mut LineBuffer,
@@ -78,7 +78,7 @@ fn put_lines<R: Sink>(
 pub fn reply<R: Sink>(
     pid: u16,
     before: &Cpu,
-    arguments: SegmentArguments,
+    arguments: Arguments,
     answer: &Answer,
     moves: &Moves,
     line: &mut LineBuffer,

@@ -1,14 +1,15 @@
 // The segments that a step needs, as far as they are known before it.
-ghost use Rattle.std.specs.Prelude.{◌≡◌, ◌<◌, ◌≤◌, ◌+◌, ◌++◌, ◌∷◌, [], length, option_map, Some, None, IsSome, true, false, ◌⊎◌};
+ghost use Rattle.std.specs.Prelude.{◌≡◌, ◌<◌, ◌≤◌, ◌+◌, ◌++◌, ◌∷◌, [], length, take, option_map, Some, None, IsSome, true, false, ◌⊎◌};
 ghost use Rattle.o2_regions.specs.declared.held.Held.{Held as HeldThere};
 ghost use Rattle.o2_regions.specs.Maps.{IsProcess};
 ghost use Rattle.o2_segbus.specs.Bus.{held_under};
-ghost use Rattle.o2_stepping.specs.Rooms.{aimed_in, huge_aimed, pair_of, seated_in, shared_aimed};
+ghost use Rattle.o2_gate.specs.Targets.{targets};
+ghost use Rattle.o2_stepping.specs.Rooms.{aimed_in, pair_of, seated_in};
 ghost use Rattle.o2_stepping.specs.Here.{are_here, is_here};
 
 use o2_base::Selector;
 use o2_desc::Access;
-use o2_gate::{HugeArguments, SegmentArguments, SharedArguments};
+use o2_gate::{Arguments, selectors_of};
 use o2_isa::Cpu;
 use o2_place::SegId;
 use o2_regions::Regions;
@@ -54,76 +55,15 @@ pub(crate) fn seats(regions: &Regions, pid: u16, cpu: &Cpu) -> Need
     need
 }
 
-/// Those behind the pointers of a call by which processes share segments.
-fn seat_shared(need: &mut Need, regions: &Regions, pid: u16, arguments: &SharedArguments)
-    requires process { IsProcess regions.now pid }
-    requires room { length need.old ≤ 4 }
-    ensures { need.new ≡ need.old ++ shared_aimed regions.now pid arguments.now }
-{
-    match arguments {
-        SharedArguments::Name {
-            text,
-            to_selector,
-            ..
-        } => {
-            seat(need, regions, pid, text.selector);
-            seat(need, regions, pid, *to_selector);
-        }
-        SharedArguments::Share {
-            text,
-            to_selector,
-            ..
-        } => {
-            seat(need, regions, pid, text.selector);
-            seat(need, regions, pid, *to_selector);
-        }
-        SharedArguments::Give { to_selector, .. } => seat(need, regions, pid, *to_selector),
-        SharedArguments::Get(_) => {}
-    }
-}
-
-/// That behind the pointer of a call on a huge allocation.
-fn seat_huge(need: &mut Need, regions: &Regions, pid: u16, arguments: &HugeArguments)
-    requires process { IsProcess regions.now pid }
-    requires room { length need.old ≤ 4 }
-    ensures { need.new ≡ need.old ++ huge_aimed regions.now pid arguments.now }
-{
-    match arguments {
-        HugeArguments::Alloc { to_selector, .. } => seat(need, regions, pid, *to_selector),
-        HugeArguments::Realloc { .. } => {}
-        HugeArguments::Shift { to_selector, .. } => seat(need, regions, pid, *to_selector),
-    }
-}
-
-/// The segments that a call on segments keeps in memory: those in the segment registers, and that behind its pointer.
-pub fn call_need(arguments: SegmentArguments, regions: &Regions, pid: u16, cpu: &Cpu) -> Need
+/// The segments that a call on segments keeps in memory: those in the segment registers, and those behind its pointers.
+pub fn call_need(arguments: Arguments, regions: &Regions, pid: u16, cpu: &Cpu) -> Need
     requires { IsProcess regions.now pid }
     ensures { result ≡ seated_in regions.now pid cpu.now ++ aimed_in regions.now pid arguments }
 {
     let mut need = seats(regions, pid, cpu);
-    match arguments {
-        SegmentArguments::Alloc {
-            size: _,
-            to_selector,
-            to_offset: _,
-            flags: _,
-        } => seat(&mut need, regions, pid, to_selector),
-        SegmentArguments::Realloc { .. } => {}
-        SegmentArguments::Free(_) => {}
-        SegmentArguments::Size {
-            selector: _,
-            to_selector,
-            to_offset: _,
-        } => seat(&mut need, regions, pid, to_selector),
-        SegmentArguments::Lock(_) => {}
-        SegmentArguments::Unlock(_) => {}
-        SegmentArguments::Alias {
-            selector: _,
-            to_selector,
-            to_offset: _,
-        } => seat(&mut need, regions, pid, to_selector),
-        SegmentArguments::Shared(shared) => seat_shared(&mut need, regions, pid, &shared),
-        SegmentArguments::Huge(huge) => seat_huge(&mut need, regions, pid, &huge),
+    let aims = selectors_of(arguments);
+    for selector in aims.as_slice() {
+        seat(&mut need, regions, pid, *selector);
     }
     need
 }

@@ -7,7 +7,7 @@ ghost use Rattle.o2_segbus.specs.Seen.{hold_in, seen};
 ghost use Rattle.o2_segbus.specs.Bus.{registers_of};
 ghost use Rattle.o2_segbus.specs.Frames.{CanStep, KeepsClean, KeepsMaps, KeepsStore};
 ghost use Rattle.o2_stepping.specs.Ran.{AttemptFor, OnAsked, OnUndone};
-ghost use Rattle.o2_gate.specs.Gathers.{targets};
+ghost use Rattle.o2_gate.specs.Targets.{targets};
 ghost use Rattle.o2_gate.specs.Pointed.{are_ready};
 ghost use Rattle.o2_stepping.specs.Tried.{PartTried, TriesOver};
 ghost use Rattle.o2_run.specs.Pieces.{counts};

@@ -8,7 +8,7 @@ use Rattle.o2_calls.proofs.Overs.{done_row, loses, none_next, roomed_row, store_
 use Rattle.o2_store.specs.Shelf.{Shelf, place_of}
 use Rattle.o2_changes.specs.Holding.{KeepsHolds}
 use Rattle.o2_changes.proofs.KeepingHolds.{holds_refl}
-use Rattle.o2_gate.specs.declared.gathering.SegmentArguments.{SegmentArguments}
+use Rattle.o2_gate.specs.declared.requests.SegmentArguments.{SegmentArguments}
 use Rattle.o2_world.specs.Changes.{with_all}
 use Rattle.o2_world.specs.Known.{known_of}
 use Rattle.o2_world.specs.Rulings.{aliasing, unlocking}
@@ -97,9 +97,9 @@ returns-in-Shared-clause-row g c = λ p s w over spells.
     let names = c.args.names.now in
     let t = q.new.store in
     let n = q.new.regions in
-    let row = q.ensures.row c.args.images.now block p s w over spells in
+    let row = q.ensures.row c.args.images.now block p s w over spells cpu in
     let idle = IsIdle t c.args.swap.now c.args.swap.now in
-    let made = with_all w (shared_ruling c.in-Shared.shared (known_of s w) pid).changes in
+    let made = with_all w (shared_ruling c.in-Shared.shared (known_of s w) pid cpu).changes in
     subst (λ (a : SegmentArguments). IsCallRow a p s w pid old t m n c.args.keep.now told block cpu cpu names q.new.names (Done q.result) idle) (sym c.in-Shared.is) (record {
       answer = row.answer;
       registers = refl;

@@ -7,9 +7,9 @@ use Rattle.o2_store.specs.Idle.{IsIdle, NoneTaken}
 use Rattle.o2_store.specs.Shelf.{Shelf}
 use Rattle.o2_changes.specs.Holding.{KeepsHolds}
 use Rattle.o2_changes.proofs.KeepingHolds.{holds_refl}
-use Rattle.o2_gate.specs.declared.gathering.SegmentArguments.TheVariants.{Huge}
-use Rattle.o2_gate.specs.declared.huge.HugeArguments.{HugeArguments}
-use Rattle.o2_gate.specs.declared.huge.HugeArguments.TheVariants.{Alloc, Realloc}
+use Rattle.o2_gate.specs.declared.requests.SegmentArguments.TheVariants.{Huge}
+use Rattle.o2_gate.specs.declared.requests.HugeArguments.{HugeArguments}
+use Rattle.o2_gate.specs.declared.requests.HugeArguments.TheVariants.{Alloc, Realloc}
 use Rattle.o2_stands.specs.Knows.{known_in, others_of}
 use Rattle.o2_stands.specs.Moves.{moved}
 use Rattle.o2_stands.proofs.Matching.{matched_by}
@@ -32,7 +32,7 @@ use Rattle.o2_calls.proofs.runs.act_on_run.Goals as goal
 pub returns-in-Alloc-clause-row : goal.returns-in-Alloc-clause-row
 returns-in-Alloc-clause-row g c = λ p s w over total.
     (let a = c.in-Alloc in
-    let b = Alloc a.segs a.part 0 0 a.most a.flags in
+    let b = Alloc a.segs a.part a.most a.flags in
     let r = Done c.alloc_huge.result in
     let cpu = c.args.cpu.now in
     let keep = c.args.keep.now in

@@ -9,13 +9,13 @@ use Rattle.o2_calls.proofs.SharedOver.{get_texts, give_texts, keeps_still, limit
 use Rattle.o2_calls.proofs.sharing.share.Goals as goal
 
 pub returns-in-Name-clause-row : goal.returns-in-Name-clause-row
-returns-in-Name-clause-row c = λ images block p s w over spells.
+returns-in-Name-clause-row c = λ images block p s w over spells cpu.
     (let q = c.alloc_shr_seg.ensures in
     let pid = c.args.pid in
     let o = others_of s w in
     let known = known_in p o in
     let here = matches_now _ _ images block p s w over pid in
-    shared_row _ _ images block p s w over pid c.in-Name.is (ap (naming known pid c.in-Name.size) c.text.ensures) (record {
+    shared_row _ _ images block p s w over pid cpu c.in-Name.is (ap (naming known pid c.in-Name.size) c.text.ensures) (record {
       answer = q.answer p o over.store over.regions spells.texts;
       matches = λ x at. q.matches p o w x over.store over.regions spells.texts at here;
       spells = record {
@@ -25,42 +25,42 @@ returns-in-Name-clause-row c = λ images block p s w over spells.
     }))
 
 pub returns-in-Share-clause-row : goal.returns-in-Share-clause-row
-returns-in-Share-clause-row c = λ images block p s w over spells.
+returns-in-Share-clause-row c = λ images block p s w over spells cpu.
     (let q = c.get_shr_seg.ensures in
     let pid = c.args.pid in
     let o = others_of s w in
     let known = known_in p o in
     let here = matches_now _ _ images block p s w over pid in
     let shared = with_all w (sharing known pid (name_by (Some c.text-in-Share.result.now))).changes in
-    shared_row _ _ images block p s w over pid c.in-Share.is (ap (sharing known pid) c.text-in-Share.ensures) (record {
+    shared_row _ _ images block p s w over pid cpu c.in-Share.is (ap (sharing known pid) c.text-in-Share.ensures) (record {
       answer = q.answer p o over.store over.regions spells.processes spells.texts;
       matches = λ x at. maps_now p _ _ _ shared over.store q.store (q.matches p o w x over.store over.regions spells.processes spells.texts at here);
       spells = spelled_same _ _ _ _ _ _ _ _ _ spells q.store q.names (share_texts w known pid (name_by (Some c.text-in-Share.result.now)));
     }))
 
 pub returns-in-Give-clause-row : goal.returns-in-Give-clause-row
-returns-in-Give-clause-row c = λ images block p s w over spells.
+returns-in-Give-clause-row c = λ images block p s w over spells cpu.
     (let q = c.give_seg.ensures in
     let pid = c.args.pid in
     let o = others_of s w in
     let known = known_in p o in
     let here = matches_now _ _ images block p s w over pid in
     let shared = with_all w (giving known pid c.in-Give.selector c.in-Give.to).changes in
-    shared_row _ _ images block p s w over pid c.in-Give.is refl (record {
+    shared_row _ _ images block p s w over pid cpu c.in-Give.is refl (record {
       answer = q.answer p o over.store over.regions spells.marked;
       matches = λ x at. maps_now p _ _ _ shared over.store q.store (q.matches p o w over.store over.regions spells.marked here);
       spells = spelled_same _ _ _ _ _ _ _ _ _ spells q.store refl (give_texts w known pid c.in-Give.selector c.in-Give.to);
     }))
 
 pub returns-in-Get-clause-row : goal.returns-in-Get-clause-row
-returns-in-Get-clause-row c = λ images block p s w over spells.
+returns-in-Get-clause-row c = λ images block p s w over spells cpu.
     (let q = c.get_seg.ensures in
     let pid = c.args.pid in
     let o = others_of s w in
     let known = known_in p o in
     let here = matches_now _ _ images block p s w over pid in
     let shared = with_all w (getting known pid c.in-Get.selector).changes in
-    shared_row _ _ images block p s w over pid c.in-Get.is refl (record {
+    shared_row _ _ images block p s w over pid cpu c.in-Get.is refl (record {
       answer = q.answer p o over.store over.regions spells.processes;
       matches = λ x at. maps_now p _ _ _ shared over.store q.store (q.matches p o w x over.store over.regions spells.processes at here);
       spells = spelled_same _ _ _ _ _ _ _ _ _ spells q.store refl (get_texts w known pid c.in-Get.selector);

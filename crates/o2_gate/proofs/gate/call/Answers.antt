@@ -1,182 +1,193 @@
--- Each row is answered by its own service.
-use Rattle.std.proofs.Common.{Option, Some, refl}
-use Rattle.o2_isa.specs.View.{View, Filling}
+-- The call by what was gathered, and by its service.
+use Rattle.std.proofs.Common.{◌≡◌, ℕ, ◌==◌, ◌&&◌, List, [], Some, true, not, ap, sym, ◌∙◌, subst, refl, arith}
 use Rattle.o2_outer.specs.Inputs.{left_as}
-use Rattle.o2_run.specs.Room.{call_names}
-use Rattle.o2_world.specs.declared.types.Row.{Row}
-use Rattle.o2_world.specs.declared.types.Row.TheVariants.{DosExit, DosGetPid, DosRead, DosWrite, DosMemAvail}
-use Rattle.o2_world.specs.Calls.{Effect}
-use Rattle.o2_gate.specs.Befores.{boundless, before_call}
-use Rattle.o2_gate.specs.Called.{Does}
-use Rattle.o2_gate.proofs.Served.{by_row, not_on_runs, not_plain, not_shared}
-use Rattle.o2_gate.proofs.Named.{names_by_row}
+use Rattle.o2_isa.specs.Pointers.{is_ready}
+use Rattle.o2_isa.specs.View.{View, Filling, is_writable}
 use Rattle.o2_run.specs.Pieces.{counts, PartHands}
-use Rattle.o2_gate.proofs.Lines.{by_line, told_line, read_line}
+use Rattle.o2_run.specs.Room.{call_names, pointed}
+use Rattle.o2_world.specs.Calls.{Effect, asks, read_slots, reading, row_of}
+use Rattle.o2_world.specs.Outcomes.{CallRow, come_out, row as call_row}
+use Rattle.o2_world.specs.Slots.{Pointer, pointers_in}
+use Rattle.o2_gate.specs.Befores.{boundless, before_call}
+use Rattle.o2_gate.specs.Called.{Does, DoesFor}
+use Rattle.o2_gate.specs.Given.{word_in}
+use Rattle.o2_gate.specs.Pointed.{are_ready}
+use Rattle.o2_gate.specs.Targets.{targets}
+use Rattle.o2_gate.proofs.Asks.{by_number}
+use Rattle.o2_gate.proofs.Gathered.{good_is, good_names, has_row, missed_names, names_by, on_asked, over_missed, tells_present, trap_is, trap_names}
+use Rattle.o2_gate.proofs.Inputs.{next_reason}
+use Rattle.o2_gate.proofs.Lines.{read_part}
+use Rattle.o2_gate.proofs.Serves.{asks_by, given_word, read_buffer, read_done, row_at}
 use Rattle.o2_gate.proofs.gate.call.Goals as goal
 
-pub returns-in-Some-DosExit-clause-does : goal.returns-in-Some-DosExit-clause-does
-returns-in-Some-DosExit-clause-does g c = λ text m f bytes known bound e same.
-    let old : View = g.B.Bus.view c.args.bus.now in
-    let b = before_call (boundless f old) c.args.pid c.args.cpu.now bytes known in
-    by_row (λ (y : Effect). Does f b y c.args.cpu.now old old (left_as text (g.I.Source.left c.args.input.now) (g.I.Source.past c.args.input.now)) (left_as text (g.I.Source.left c.args.input.now) (g.I.Source.past c.args.input.now))
-    (g.C.Sink.taken c.args.console.now) (g.C.Sink.taken c.args.console.now) (g.R.Sink.taken c.args.report.now) (g.R.Sink.taken c.dos_exit.new.report) c.dos_exit.result)
-    b c.args.service c.args.next c.row_of.result c.in-Some-DosExit.field-0 DosExit c.row_of.ensures.row c.in-Some-DosExit.is c.in-Some-DosExit.field-0-is
-    (c.dos_exit.ensures.does f bytes known _ _ bound e)
+pub returns-in-Trap-clause-does : goal.returns-in-Trap-clause-does
+returns-in-Trap-clause-does g c = λ text m f bytes known bound e is.
+    let v : View = g.B.Bus.view c.args.bus.now in
+    let x = c.in-Some.row in
+    record { effect = trap_is v c.args.cpu.now c.args.service c.args.next c.args.pid f bound bytes known x c.in-Some.ensures.row c.in-Trap.vector c.in-Trap.ensures.gathers; code = refl; untouched = record { cpu = refl; view = c.gather.ensures.same; input = refl; to_console = refl; to_report = refl } }
 
-pub returns-in-Some-DosExit-clause-every : goal.returns-in-Some-DosExit-clause-every
-returns-in-Some-DosExit-clause-every g c = λ other f bytes known bound same.
-    let old : View = g.B.Bus.view c.args.bus.now in
-    let b = before_call (boundless f old) c.args.pid c.args.cpu.now bytes known in
-    by_row (λ (y : Effect). Does f b y c.args.cpu.now old old (Some bytes) (Some bytes)
-    (g.C.Sink.taken c.args.console.now) (g.C.Sink.taken c.args.console.now) (g.R.Sink.taken c.args.report.now) (g.R.Sink.taken c.dos_exit.new.report) c.dos_exit.result)
-    b c.args.service c.args.next c.row_of.result c.in-Some-DosExit.field-0 DosExit c.row_of.ensures.row c.in-Some-DosExit.is c.in-Some-DosExit.field-0-is
-    (c.dos_exit.ensures.does f bytes known _ _ bound refl)
+pub returns-in-Trap-clause-every : goal.returns-in-Trap-clause-every
+returns-in-Trap-clause-every g c = λ other f bytes known bound is.
+    let v : View = g.B.Bus.view c.args.bus.now in
+    let x = c.in-Some.row in
+    record { effect = trap_is v c.args.cpu.now c.args.service c.args.next c.args.pid f bound bytes known x c.in-Some.ensures.row c.in-Trap.vector c.in-Trap.ensures.gathers; code = refl; untouched = record { cpu = refl; view = c.gather.ensures.same; input = refl; to_console = refl; to_report = refl } }
 
-pub returns-in-Some-DosGetPid-clause-does : goal.returns-in-Some-DosGetPid-clause-does
-returns-in-Some-DosGetPid-clause-does g c = λ text m f bytes known bound e same.
-    let old : View = g.B.Bus.view c.args.bus.now in
-    let b = before_call (boundless f old) c.args.pid c.args.cpu.now bytes known in
-    by_row (λ (y : Effect). Does f b y c.dos_get_pid.new.cpu old (g.B.Bus.view c.dos_get_pid.new.bus) (left_as text (g.I.Source.left c.args.input.now) (g.I.Source.past c.args.input.now)) (left_as text (g.I.Source.left c.args.input.now) (g.I.Source.past c.args.input.now))
-    (g.C.Sink.taken c.args.console.now) (g.C.Sink.taken c.args.console.now) (g.R.Sink.taken c.args.report.now) (g.R.Sink.taken c.dos_get_pid.new.report) c.dos_get_pid.result)
-    b c.args.service c.args.next c.row_of.result c.in-Some-DosGetPid.field-0 DosGetPid c.row_of.ensures.row c.in-Some-DosGetPid.is c.in-Some-DosGetPid.field-0-is
-    (c.dos_get_pid.ensures.does f bytes known _ _ bound e)
+pub returns-in-Trap-clause-names : goal.returns-in-Trap-clause-names
+returns-in-Trap-clause-names g c = λ input known bound f.
+    let v : View = g.B.Bus.view c.args.bus.now in
+    let x = c.in-Some.row in
+    trap_names v c.args.cpu.now c.args.service c.args.next c.args.pid f bound input known x c.in-Some.ensures.row c.in-Trap.vector c.in-Trap.ensures.gathers
 
-pub returns-in-Some-DosGetPid-clause-every : goal.returns-in-Some-DosGetPid-clause-every
-returns-in-Some-DosGetPid-clause-every g c = λ other f bytes known bound same.
-    let old : View = g.B.Bus.view c.args.bus.now in
-    let b = before_call (boundless f old) c.args.pid c.args.cpu.now bytes known in
-    by_row (λ (y : Effect). Does f b y c.dos_get_pid.new.cpu old (g.B.Bus.view c.dos_get_pid.new.bus) (Some bytes) (Some bytes)
-    (g.C.Sink.taken c.args.console.now) (g.C.Sink.taken c.args.console.now) (g.R.Sink.taken c.args.report.now) (g.R.Sink.taken c.dos_get_pid.new.report) c.dos_get_pid.result)
-    b c.args.service c.args.next c.row_of.result c.in-Some-DosGetPid.field-0 DosGetPid c.row_of.ensures.row c.in-Some-DosGetPid.is c.in-Some-DosGetPid.field-0-is
-    (c.dos_get_pid.ensures.does f bytes known _ _ bound refl)
+pub returns-in-Missed-clause-names : goal.returns-in-Missed-clause-names
+returns-in-Missed-clause-names g c = λ input known bound f.
+    let v : View = g.B.Bus.view c.args.bus.now in
+    let x = c.in-Some.row in
+    missed_names v c.args.cpu.now c.args.service c.args.next c.args.pid f bound input known x c.in-Some.ensures.row c.in-Missed.sel c.in-Missed.ensures.gathers
 
-pub returns-in-Some-DosRead-clause-does : goal.returns-in-Some-DosRead-clause-does
-returns-in-Some-DosRead-clause-does g c = λ text m f bytes known bound e same.
-    let old : View = g.B.Bus.view c.args.bus.now in
-    let b = before_call (boundless f old) c.args.pid c.args.cpu.now bytes known in
-    by_row (λ (y : Effect). Does f b y c.dos_read.new.cpu old (g.B.Bus.view c.dos_read.new.bus) (left_as text (g.I.Source.left c.args.input.now) (g.I.Source.past c.args.input.now)) (left_as text (g.I.Source.left c.dos_read.new.input) (g.I.Source.past c.dos_read.new.input))
-    (g.C.Sink.taken c.args.console.now) (g.C.Sink.taken c.args.console.now) (g.R.Sink.taken c.args.report.now) (g.R.Sink.taken c.dos_read.new.report) c.dos_read.result)
-    b c.args.service c.args.next c.row_of.result c.in-Some-DosRead.field-0 DosRead c.row_of.ensures.row c.in-Some-DosRead.is c.in-Some-DosRead.field-0-is
-    (c.dos_read.ensures.does text m f bytes known _ bound e)
+pub read-requires-clause-slots : goal.read-requires-clause-slots
+unfolding row_of
+read-requires-clause-slots g c = (row_at c.in-Some.row c.args.service 3 c.if-service-eq3.true c.in-Some.ensures.row).slots
 
-pub returns-in-Some-DosWrite-clause-does : goal.returns-in-Some-DosWrite-clause-does
-returns-in-Some-DosWrite-clause-does g c = λ text m f bytes known bound e same.
-    let old : View = g.B.Bus.view c.args.bus.now in
-    let b = before_call (boundless f old) c.args.pid c.args.cpu.now bytes known in
-    by_row (λ (y : Effect). Does f b y c.dos_write.new.cpu old (g.B.Bus.view c.dos_write.new.bus) (left_as text (g.I.Source.left c.args.input.now) (g.I.Source.past c.args.input.now)) (left_as text (g.I.Source.left c.args.input.now) (g.I.Source.past c.args.input.now))
-    (g.C.Sink.taken c.args.console.now) (g.C.Sink.taken c.dos_write.new.console) (g.R.Sink.taken c.args.report.now) (g.R.Sink.taken c.dos_write.new.report) c.dos_write.result)
-    b c.args.service c.args.next c.row_of.result c.in-Some-DosWrite.field-0 DosWrite c.row_of.ensures.row c.in-Some-DosWrite.is c.in-Some-DosWrite.field-0-is
-    (c.dos_write.ensures.does f bytes known _ bound e)
+pub read-requires-clause-buffer : goal.read-requires-clause-buffer
+unfolding row_of
+read-requires-clause-buffer g c =
+    let is = row_at c.in-Some.row c.args.service 3 c.if-service-eq3.true c.in-Some.ensures.row in
+    subst (λ (z : View). is_ready is_writable z (word_in c.in-Good.given.words 4) (word_in c.in-Good.given.words 3) (word_in c.in-Good.given.words 2) ≡ true) (sym c.gather.ensures.same)
+    (read_buffer (g.B.Bus.view c.args.bus.now) (word_in c.in-Good.given.words) c.in-Some.row.slots.now c.in-Good.ensures.gathers.test is.slots)
 
-pub returns-in-Some-DosWrite-clause-every : goal.returns-in-Some-DosWrite-clause-every
-returns-in-Some-DosWrite-clause-every g c = λ other f bytes known bound same.
-    let old : View = g.B.Bus.view c.args.bus.now in
-    let b = before_call (boundless f old) c.args.pid c.args.cpu.now bytes known in
-    by_row (λ (y : Effect). Does f b y c.dos_write.new.cpu old (g.B.Bus.view c.dos_write.new.bus) (Some bytes) (Some bytes)
-    (g.C.Sink.taken c.args.console.now) (g.C.Sink.taken c.dos_write.new.console) (g.R.Sink.taken c.args.report.now) (g.R.Sink.taken c.dos_write.new.report) c.dos_write.result)
-    b c.args.service c.args.next c.row_of.result c.in-Some-DosWrite.field-0 DosWrite c.row_of.ensures.row c.in-Some-DosWrite.is c.in-Some-DosWrite.field-0-is
-    (c.dos_write.ensures.does f bytes known _ bound refl)
+pub read-requires-clause-done : goal.read-requires-clause-done
+unfolding row_of
+read-requires-clause-done g c =
+    let is = row_at c.in-Some.row c.args.service 3 c.if-service-eq3.true c.in-Some.ensures.row in
+    subst (λ (z : View). is_ready is_writable z (word_in c.in-Good.given.words 1) (word_in c.in-Good.given.words 0) 2 ≡ true) (sym c.gather.ensures.same)
+    (read_done (g.B.Bus.view c.args.bus.now) (word_in c.in-Good.given.words) c.in-Some.row.slots.now c.in-Good.ensures.gathers.test is.slots)
 
-pub returns-in-Some-DosMemAvail-clause-does : goal.returns-in-Some-DosMemAvail-clause-does
-returns-in-Some-DosMemAvail-clause-does g c = λ text m f bytes known bound e same.
-    let old : View = g.B.Bus.view c.args.bus.now in
-    let b = before_call (boundless f old) c.args.pid c.args.cpu.now bytes known in
-    by_row (λ (y : Effect). Does f b y c.dos_mem_avail.new.cpu old (g.B.Bus.view c.dos_mem_avail.new.bus) (left_as text (g.I.Source.left c.args.input.now) (g.I.Source.past c.args.input.now)) (left_as text (g.I.Source.left c.args.input.now) (g.I.Source.past c.args.input.now))
-    (g.C.Sink.taken c.args.console.now) (g.C.Sink.taken c.args.console.now) (g.R.Sink.taken c.args.report.now) (g.R.Sink.taken c.dos_mem_avail.new.report) c.dos_mem_avail.result)
-    b c.args.service c.args.next c.row_of.result c.in-Some-DosMemAvail.field-0 DosMemAvail c.row_of.ensures.row c.in-Some-DosMemAvail.is c.in-Some-DosMemAvail.field-0-is
-    (c.dos_mem_avail.ensures.does f bytes known _ _ bound e same.avail)
+pub returns-then-service-eq3-clause-does : goal.returns-then-service-eq3-clause-does
+unfolding row_of
+returns-then-service-eq3-clause-does g c = λ text m f bytes known bound e is.
+    let v : View = g.B.Bus.view c.args.bus.now in
+    let x = c.in-Some.row in
+    let w : ℕ → ℕ = word_in c.in-Good.given.words in
+    let b = before_call (boundless f v) c.args.pid c.args.cpu.now bytes known in
+    let h = has_row c.args.service x c.in-Some.ensures.row in
+    let at = row_at x c.args.service 3 c.if-service-eq3.true c.in-Some.ensures.row in
+    let did = subst (λ (z : View). DoesFor (((w 5 == 0) && not (w 2 == 0)) ≡ true) f (before_call (boundless f z) c.args.pid c.args.cpu.now bytes known) (come_out (call_row x.name.now read_slots reading) (before_call (boundless f z) c.args.pid c.args.cpu.now bytes known) c.args.next w (reading (before_call (boundless f z) c.args.pid c.args.cpu.now bytes known) w)) c.read.new.cpu z (g.B.Bus.view c.read.new.bus)
+    (left_as text (g.I.Source.left c.args.input.now) (g.I.Source.past c.args.input.now)) (left_as text (g.I.Source.left c.read.new.input) (g.I.Source.past c.read.new.input))
+    (g.C.Sink.taken c.args.console.now) (g.C.Sink.taken c.args.console.now) (g.R.Sink.taken c.args.report.now) (g.R.Sink.taken c.read.new.report) c.read.result) c.gather.ensures.same
+    (c.read.ensures.does text m f bytes known _ e) in
+    let named = subst (λ (n : List ℕ). DoesFor (((w 5 == 0) && not (w 2 == 0)) ≡ true) f b (come_out (call_row n read_slots reading) b c.args.next w (reading b w)) c.read.new.cpu v (g.B.Bus.view c.read.new.bus)
+    (left_as text (g.I.Source.left c.args.input.now) (g.I.Source.past c.args.input.now)) (left_as text (g.I.Source.left c.read.new.input) (g.I.Source.past c.read.new.input))
+    (g.C.Sink.taken c.args.console.now) (g.C.Sink.taken c.args.console.now) (g.R.Sink.taken c.args.report.now) (g.R.Sink.taken c.read.new.report) c.read.result) at.name did in
+    subst (λ (y : Effect). DoesFor (asks b ≡ true) f b (y) c.read.new.cpu v (g.B.Bus.view c.read.new.bus)
+    (left_as text (g.I.Source.left c.args.input.now) (g.I.Source.past c.args.input.now)) (left_as text (g.I.Source.left c.read.new.input) (g.I.Source.past c.read.new.input))
+    (g.C.Sink.taken c.args.console.now) (g.C.Sink.taken c.args.console.now) (g.R.Sink.taken c.args.report.now) (g.R.Sink.taken c.read.new.report) c.read.result) (sym (good_is v c.args.cpu.now c.args.service c.args.next c.args.pid f bound bytes known x c.in-Some.ensures.row c.in-Good.given.words c.in-Good.given.text c.in-Good.ensures.gathers))
+    (by_number (λ (q : CallRow). DoesFor (asks b ≡ true) f b (come_out q b c.args.next w (q.outcome b w)) c.read.new.cpu v (g.B.Bus.view c.read.new.bus)
+    (left_as text (g.I.Source.left c.args.input.now) (g.I.Source.past c.args.input.now)) (left_as text (g.I.Source.left c.read.new.input) (g.I.Source.past c.read.new.input))
+    (g.C.Sink.taken c.args.console.now) (g.C.Sink.taken c.args.console.now) (g.R.Sink.taken c.args.report.now) (g.R.Sink.taken c.read.new.report) c.read.result) c.args.service 3 c.if-service-eq3.true refl
+    (next_reason _ _ (asks_by v c.args.cpu.now at.slots c.in-Good.given.words f bound c.args.pid bytes known c.in-Good.ensures.gathers.read_in c.in-Good.ensures.gathers.test) f b _ _ _ _ _ _ _ _ _ _ c.read.result named) h.r h.is)
 
-pub returns-in-Some-DosMemAvail-clause-every : goal.returns-in-Some-DosMemAvail-clause-every
-returns-in-Some-DosMemAvail-clause-every g c = λ other f bytes known bound same.
-    let old : View = g.B.Bus.view c.args.bus.now in
-    let b = before_call (boundless f old) c.args.pid c.args.cpu.now bytes known in
-    by_row (λ (y : Effect). Does f b y c.dos_mem_avail.new.cpu old (g.B.Bus.view c.dos_mem_avail.new.bus) (Some bytes) (Some bytes)
-    (g.C.Sink.taken c.args.console.now) (g.C.Sink.taken c.args.console.now) (g.R.Sink.taken c.args.report.now) (g.R.Sink.taken c.dos_mem_avail.new.report) c.dos_mem_avail.result)
-    b c.args.service c.args.next c.row_of.result c.in-Some-DosMemAvail.field-0 DosMemAvail c.row_of.ensures.row c.in-Some-DosMemAvail.is c.in-Some-DosMemAvail.field-0-is
-    (c.dos_mem_avail.ensures.does f bytes known _ _ bound refl same.avail)
+pub returns-then-service-eq3-clause-names : goal.returns-then-service-eq3-clause-names
+returns-then-service-eq3-clause-names g c = λ input known bound.
+    let v : View = g.B.Bus.view c.args.bus.now in
+    let x = c.in-Some.row in
+    tells_present v (λ f. call_names (before_call (boundless f v) c.args.pid c.args.cpu.now input known) (row_of c.args.service)) c.read.result (over_missed c.read.result c.read.ensures.over _)
+    (λ f. good_names v c.args.cpu.now c.args.service c.args.next c.args.pid f bound input known x c.in-Some.ensures.row c.in-Good.given.words c.in-Good.given.text c.in-Good.ensures.gathers)
 
-pub returns-in-Some-DosExit-clause-names : goal.returns-in-Some-DosExit-clause-names
-returns-in-Some-DosExit-clause-names g c = λ input known bound.
-    let old : View = g.B.Bus.view c.args.bus.now in
-    names_by_row old (λ (f : Filling) (x : Option Row). call_names (before_call (boundless f old) c.args.pid c.args.cpu.now input known) x) c.dos_exit.result c.args.service
-    c.row_of.result c.in-Some-DosExit.field-0 DosExit c.row_of.ensures.row c.in-Some-DosExit.is c.in-Some-DosExit.field-0-is (c.dos_exit.ensures.names input known bound)
+pub returns-then-service-eq3-clause-puts : goal.returns-then-service-eq3-clause-puts
+returns-then-service-eq3-clause-puts g c = c.read.ensures.puts _
 
-pub returns-in-Some-DosGetPid-clause-names : goal.returns-in-Some-DosGetPid-clause-names
-returns-in-Some-DosGetPid-clause-names g c = λ input known bound.
-    let old : View = g.B.Bus.view c.args.bus.now in
-    names_by_row old (λ (f : Filling) (x : Option Row). call_names (before_call (boundless f old) c.args.pid c.args.cpu.now input known) x) c.dos_get_pid.result c.args.service
-    c.row_of.result c.in-Some-DosGetPid.field-0 DosGetPid c.row_of.ensures.row c.in-Some-DosGetPid.is c.in-Some-DosGetPid.field-0-is (c.dos_get_pid.ensures.names input known bound)
+pub returns-then-service-eq3-clause-nothing : goal.returns-then-service-eq3-clause-nothing
+unfolding row_of
+returns-then-service-eq3-clause-nothing g c = λ is f bound none.
+    let v : View = g.B.Bus.view c.args.bus.now in
+    let x = c.in-Some.row in
+    let at = row_at x c.args.service 3 c.if-service-eq3.true c.in-Some.ensures.row in
+    c.read.ensures.nothing (sym (given_word v c.args.cpu.now at.slots c.in-Good.given.words f bound c.in-Good.ensures.gathers.read_in 2 (omega arith)) ∙ none)
 
-pub returns-in-Some-DosRead-clause-names : goal.returns-in-Some-DosRead-clause-names
-returns-in-Some-DosRead-clause-names g c = λ input known bound.
-    let old : View = g.B.Bus.view c.args.bus.now in
-    names_by_row old (λ (f : Filling) (x : Option Row). call_names (before_call (boundless f old) c.args.pid c.args.cpu.now input known) x) c.dos_read.result c.args.service
-    c.row_of.result c.in-Some-DosRead.field-0 DosRead c.row_of.ensures.row c.in-Some-DosRead.is c.in-Some-DosRead.field-0-is (c.dos_read.ensures.names input known bound)
+pub returns-then-service-eq3-clause-refused : goal.returns-then-service-eq3-clause-refused
+unfolding row_of
+returns-then-service-eq3-clause-refused g c = λ is f bound other.
+    let v : View = g.B.Bus.view c.args.bus.now in
+    let x = c.in-Some.row in
+    let at = row_at x c.args.service 3 c.if-service-eq3.true c.in-Some.ensures.row in
+    c.read.ensures.refused (λ z. other (given_word v c.args.cpu.now at.slots c.in-Good.given.words f bound c.in-Good.ensures.gathers.read_in 5 (omega arith) ∙ z))
 
-pub returns-in-Some-DosWrite-clause-names : goal.returns-in-Some-DosWrite-clause-names
-returns-in-Some-DosWrite-clause-names g c = λ input known bound.
-    let old : View = g.B.Bus.view c.args.bus.now in
-    names_by_row old (λ (f : Filling) (x : Option Row). call_names (before_call (boundless f old) c.args.pid c.args.cpu.now input known) x) c.dos_write.result c.args.service
-    c.row_of.result c.in-Some-DosWrite.field-0 DosWrite c.row_of.ensures.row c.in-Some-DosWrite.is c.in-Some-DosWrite.field-0-is (c.dos_write.ensures.names input known bound)
+pub returns-then-service-eq3-clause-part : goal.returns-then-service-eq3-clause-part
+unfolding row_of
+returns-then-service-eq3-clause-part g c = λ f bytes known bound is.
+    let v : View = g.B.Bus.view c.args.bus.now in
+    let x = c.in-Some.row in
+    let w : ℕ → ℕ = word_in c.in-Good.given.words in
+    let b = before_call (boundless f v) c.args.pid c.args.cpu.now bytes known in
+    let h = has_row c.args.service x c.in-Some.ensures.row in
+    let at = row_at x c.args.service 3 c.if-service-eq3.true c.in-Some.ensures.row in
+    subst (λ (y : Effect). PartHands (y)
+    (counts (g.C.Sink.puts c.args.console.now) (g.C.Sink.puts c.args.console.now) (g.R.Sink.puts c.args.report.now) (g.R.Sink.puts c.read.new.report) 0) c.read.result) (sym (good_is v c.args.cpu.now c.args.service c.args.next c.args.pid f bound bytes known x c.in-Some.ensures.row c.in-Good.given.words c.in-Good.given.text c.in-Good.ensures.gathers))
+    (by_number (λ (q : CallRow). PartHands (come_out q b c.args.next w (q.outcome b w))
+    (counts (g.C.Sink.puts c.args.console.now) (g.C.Sink.puts c.args.console.now) (g.R.Sink.puts c.args.report.now) (g.R.Sink.puts c.read.new.report) 0) c.read.result) c.args.service 3 c.if-service-eq3.true refl
+    (subst (λ (n : List ℕ). PartHands (come_out (call_row n read_slots reading) b c.args.next w (reading b w))
+    (counts (g.C.Sink.puts c.args.console.now) (g.C.Sink.puts c.args.console.now) (g.R.Sink.puts c.args.report.now) (g.R.Sink.puts c.read.new.report) 0) c.read.result) at.name
+    (read_part b w x.name.now c.args.next _ c.read.result (c.read.ensures.part _))) h.r h.is)
 
-pub returns-in-Some-DosMemAvail-clause-names : goal.returns-in-Some-DosMemAvail-clause-names
-returns-in-Some-DosMemAvail-clause-names g c = λ input known bound.
-    let old : View = g.B.Bus.view c.args.bus.now in
-    names_by_row old (λ (f : Filling) (x : Option Row). call_names (before_call (boundless f old) c.args.pid c.args.cpu.now input known) x) c.dos_mem_avail.result c.args.service
-    c.row_of.result c.in-Some-DosMemAvail.field-0 DosMemAvail c.row_of.ensures.row c.in-Some-DosMemAvail.is c.in-Some-DosMemAvail.field-0-is (c.dos_mem_avail.ensures.names input known bound)
+pub returns-else-service-eq3-clause-does : goal.returns-else-service-eq3-clause-does
+returns-else-service-eq3-clause-does g c = λ text m f bytes known bound e is.
+    let v : View = g.B.Bus.view c.args.bus.now in
+    let x = c.in-Some.row in
+    let w : ℕ → ℕ = word_in c.in-Good.given.words in
+    let b = before_call (boundless f v) c.args.pid c.args.cpu.now bytes known in
+    let h = has_row c.args.service x c.in-Some.ensures.row in
+    subst (λ (y : Effect). Does f b (y) c.serve.new.cpu v (g.B.Bus.view c.serve.new.bus) (left_as text (g.I.Source.left c.args.input.now) (g.I.Source.past c.args.input.now)) (left_as text (g.I.Source.left c.args.input.now) (g.I.Source.past c.args.input.now))
+    (g.C.Sink.taken c.args.console.now) (g.C.Sink.taken c.serve.new.console) (g.R.Sink.taken c.args.report.now) (g.R.Sink.taken c.serve.new.report) c.serve.result) (sym (good_is v c.args.cpu.now c.args.service c.args.next c.args.pid f bound bytes known x c.in-Some.ensures.row c.in-Good.given.words c.in-Good.given.text c.in-Good.ensures.gathers))
+    (subst (λ (z : View). Does f (before_call (boundless f z) c.args.pid c.args.cpu.now bytes known) (come_out h.r (before_call (boundless f z) c.args.pid c.args.cpu.now bytes known) c.args.next w (h.r.outcome (before_call (boundless f z) c.args.pid c.args.cpu.now bytes known) w)) c.serve.new.cpu z (g.B.Bus.view c.serve.new.bus) (left_as text (g.I.Source.left c.args.input.now) (g.I.Source.past c.args.input.now)) (left_as text (g.I.Source.left c.args.input.now) (g.I.Source.past c.args.input.now))
+    (g.C.Sink.taken c.args.console.now) (g.C.Sink.taken c.serve.new.console) (g.R.Sink.taken c.args.report.now) (g.R.Sink.taken c.serve.new.report) c.serve.result) c.gather.ensures.same
+    (c.serve.ensures.does f bytes known _ h.r e is.avail h.is))
 
-pub returns-in-Some-DosExit-clause-part : goal.returns-in-Some-DosExit-clause-part
-returns-in-Some-DosExit-clause-part g c = λ f bytes known bound same.
-    let b = before_call (boundless f (g.B.Bus.view c.args.bus.now)) c.args.pid c.args.cpu.now bytes known in
-    by_row (λ (y : Effect). PartHands y (counts (g.C.Sink.puts c.args.console.now) (g.C.Sink.puts c.args.console.now) (g.R.Sink.puts c.args.report.now) (g.R.Sink.puts c.dos_exit.new.report) 0) c.dos_exit.result)
-    b c.args.service c.args.next c.row_of.result c.in-Some-DosExit.field-0 DosExit c.row_of.ensures.row c.in-Some-DosExit.is c.in-Some-DosExit.field-0-is
-    (c.dos_exit.ensures.part f bytes known _ bound)
+pub returns-else-service-eq3-clause-every : goal.returns-else-service-eq3-clause-every
+returns-else-service-eq3-clause-every g c = λ other f bytes known bound is.
+    let v : View = g.B.Bus.view c.args.bus.now in
+    let x = c.in-Some.row in
+    let w : ℕ → ℕ = word_in c.in-Good.given.words in
+    let b = before_call (boundless f v) c.args.pid c.args.cpu.now bytes known in
+    let h = has_row c.args.service x c.in-Some.ensures.row in
+    subst (λ (y : Effect). Does f b (y) c.serve.new.cpu v (g.B.Bus.view c.serve.new.bus) (Some bytes) (Some bytes)
+    (g.C.Sink.taken c.args.console.now) (g.C.Sink.taken c.serve.new.console) (g.R.Sink.taken c.args.report.now) (g.R.Sink.taken c.serve.new.report) c.serve.result) (sym (good_is v c.args.cpu.now c.args.service c.args.next c.args.pid f bound bytes known x c.in-Some.ensures.row c.in-Good.given.words c.in-Good.given.text c.in-Good.ensures.gathers))
+    (subst (λ (z : View). Does f (before_call (boundless f z) c.args.pid c.args.cpu.now bytes known) (come_out h.r (before_call (boundless f z) c.args.pid c.args.cpu.now bytes known) c.args.next w (h.r.outcome (before_call (boundless f z) c.args.pid c.args.cpu.now bytes known) w)) c.serve.new.cpu z (g.B.Bus.view c.serve.new.bus) (Some bytes) (Some bytes)
+    (g.C.Sink.taken c.args.console.now) (g.C.Sink.taken c.serve.new.console) (g.R.Sink.taken c.args.report.now) (g.R.Sink.taken c.serve.new.report) c.serve.result) c.gather.ensures.same
+    (c.serve.ensures.does f bytes known _ h.r refl is.avail h.is))
 
-pub returns-in-Some-DosGetPid-clause-part : goal.returns-in-Some-DosGetPid-clause-part
-returns-in-Some-DosGetPid-clause-part g c = λ f bytes known bound same.
-    let b = before_call (boundless f (g.B.Bus.view c.args.bus.now)) c.args.pid c.args.cpu.now bytes known in
-    by_row (λ (y : Effect). PartHands y (counts (g.C.Sink.puts c.args.console.now) (g.C.Sink.puts c.args.console.now) (g.R.Sink.puts c.args.report.now) (g.R.Sink.puts c.dos_get_pid.new.report) 0) c.dos_get_pid.result)
-    b c.args.service c.args.next c.row_of.result c.in-Some-DosGetPid.field-0 DosGetPid c.row_of.ensures.row c.in-Some-DosGetPid.is c.in-Some-DosGetPid.field-0-is
-    (by_line _ _ _ (told_line b c.args.next _ _ _) (c.dos_get_pid.ensures.part _))
+pub returns-else-service-eq3-clause-part : goal.returns-else-service-eq3-clause-part
+returns-else-service-eq3-clause-part g c = λ f bytes known bound is.
+    let v : View = g.B.Bus.view c.args.bus.now in
+    let x = c.in-Some.row in
+    let w : ℕ → ℕ = word_in c.in-Good.given.words in
+    let b = before_call (boundless f v) c.args.pid c.args.cpu.now bytes known in
+    let h = has_row c.args.service x c.in-Some.ensures.row in
+    subst (λ (y : Effect). PartHands (y)
+    (counts (g.C.Sink.puts c.args.console.now) (g.C.Sink.puts c.serve.new.console) (g.R.Sink.puts c.args.report.now) (g.R.Sink.puts c.serve.new.report) 0) c.serve.result) (sym (good_is v c.args.cpu.now c.args.service c.args.next c.args.pid f bound bytes known x c.in-Some.ensures.row c.in-Good.given.words c.in-Good.given.text c.in-Good.ensures.gathers))
+    (subst (λ (z : View). PartHands (come_out h.r (before_call (boundless f z) c.args.pid c.args.cpu.now bytes known) c.args.next w (h.r.outcome (before_call (boundless f z) c.args.pid c.args.cpu.now bytes known) w))
+    (counts (g.C.Sink.puts c.args.console.now) (g.C.Sink.puts c.serve.new.console) (g.R.Sink.puts c.args.report.now) (g.R.Sink.puts c.serve.new.report) 0) c.serve.result) c.gather.ensures.same
+    (c.serve.ensures.part f bytes known h.r is.avail h.is))
 
-pub returns-in-Some-DosRead-clause-part : goal.returns-in-Some-DosRead-clause-part
-returns-in-Some-DosRead-clause-part g c = λ f bytes known bound same.
-    let b = before_call (boundless f (g.B.Bus.view c.args.bus.now)) c.args.pid c.args.cpu.now bytes known in
-    by_row (λ (y : Effect). PartHands y (counts (g.C.Sink.puts c.args.console.now) (g.C.Sink.puts c.args.console.now) (g.R.Sink.puts c.args.report.now) (g.R.Sink.puts c.dos_read.new.report) 0) c.dos_read.result)
-    b c.args.service c.args.next c.row_of.result c.in-Some-DosRead.field-0 DosRead c.row_of.ensures.row c.in-Some-DosRead.is c.in-Some-DosRead.field-0-is
-    (by_line _ _ _ (read_line b c.args.next) (c.dos_read.ensures.part _))
+pub returns-else-service-eq3-clause-names : goal.returns-else-service-eq3-clause-names
+returns-else-service-eq3-clause-names g c = λ input known bound.
+    let v : View = g.B.Bus.view c.args.bus.now in
+    let x = c.in-Some.row in
+    tells_present v (λ f. call_names (before_call (boundless f v) c.args.pid c.args.cpu.now input known) (row_of c.args.service)) c.serve.result c.serve.ensures.never
+    (λ f. good_names v c.args.cpu.now c.args.service c.args.next c.args.pid f bound input known x c.in-Some.ensures.row c.in-Good.given.words c.in-Good.given.text c.in-Good.ensures.gathers)
 
-pub returns-in-Some-DosWrite-clause-part : goal.returns-in-Some-DosWrite-clause-part
-returns-in-Some-DosWrite-clause-part g c = λ f bytes known bound same.
-    let b = before_call (boundless f (g.B.Bus.view c.args.bus.now)) c.args.pid c.args.cpu.now bytes known in
-    by_row (λ (y : Effect). PartHands y (counts (g.C.Sink.puts c.args.console.now) (g.C.Sink.puts c.dos_write.new.console) (g.R.Sink.puts c.args.report.now) (g.R.Sink.puts c.dos_write.new.report) 0) c.dos_write.result)
-    b c.args.service c.args.next c.row_of.result c.in-Some-DosWrite.field-0 DosWrite c.row_of.ensures.row c.in-Some-DosWrite.is c.in-Some-DosWrite.field-0-is
-    (c.dos_write.ensures.part f bytes known bound)
+pub returns-else-service-eq3-clause-ready : goal.returns-else-service-eq3-clause-ready
+returns-else-service-eq3-clause-ready g c =
+    let v : View = g.B.Bus.view c.args.bus.now in
+    let w : ℕ → ℕ = word_in c.in-Good.given.words in
+    let f : Filling = record { blocks = λ n. []; hidden = v.hidden } in
+    on_asked (λ a aims. subst (λ (ps : List Pointer). are_ready v ps ≡ true)
+    (subst (λ (z : View). pointers_in c.in-Some.row.slots.now (boundless f z) w ≡ targets a) c.gather.ensures.same (aims f)) (c.in-Good.ensures.gathers.test.ready f)) c.serve.result c.serve.ensures.aims
 
-pub returns-in-Some-DosMemAvail-clause-part : goal.returns-in-Some-DosMemAvail-clause-part
-returns-in-Some-DosMemAvail-clause-part g c = λ f bytes known bound same.
-    let b = before_call (boundless f (g.B.Bus.view c.args.bus.now)) c.args.pid c.args.cpu.now bytes known in
-    by_row (λ (y : Effect). PartHands y (counts (g.C.Sink.puts c.args.console.now) (g.C.Sink.puts c.args.console.now) (g.R.Sink.puts c.args.report.now) (g.R.Sink.puts c.dos_mem_avail.new.report) 0) c.dos_mem_avail.result)
-    b c.args.service c.args.next c.row_of.result c.in-Some-DosMemAvail.field-0 DosMemAvail c.row_of.ensures.row c.in-Some-DosMemAvail.is c.in-Some-DosMemAvail.field-0-is
-    (by_line _ _ _ (told_line b c.args.next _ _ _) (c.dos_mem_avail.ensures.part _))
-
-pub returns-in-Some-DosExit-clause-puts : goal.returns-in-Some-DosExit-clause-puts
-returns-in-Some-DosExit-clause-puts g c = c.dos_exit.ensures.puts _
-
-pub returns-in-Some-DosGetPid-clause-puts : goal.returns-in-Some-DosGetPid-clause-puts
-returns-in-Some-DosGetPid-clause-puts g c = c.dos_get_pid.ensures.puts _
-
-pub returns-in-Some-DosRead-clause-puts : goal.returns-in-Some-DosRead-clause-puts
-returns-in-Some-DosRead-clause-puts g c = c.dos_read.ensures.puts _
-
-pub returns-in-Some-DosMemAvail-clause-puts : goal.returns-in-Some-DosMemAvail-clause-puts
-returns-in-Some-DosMemAvail-clause-puts g c = c.dos_mem_avail.ensures.puts _
-
-pub unreachable-requires : goal.unreachable-requires
-unreachable-requires g c = not_plain c.args.service c.row_of.result c.in-Some-OnSegments.field-0 _ c.requires.plain c.row_of.ensures.row c.in-Some-OnSegments.is c.in-Some-OnSegments.field-0-is
-
-pub unreachable-requires-in-Some-OnShared : goal.unreachable-requires-in-Some-OnShared
-unreachable-requires-in-Some-OnShared g c = not_shared c.args.service c.row_of.result c.in-Some-OnShared.field-0 _ c.requires.plain c.row_of.ensures.row c.in-Some-OnShared.is c.in-Some-OnShared.field-0-is
-
-pub unreachable-requires-in-Some-OnRuns : goal.unreachable-requires-in-Some-OnRuns
-unreachable-requires-in-Some-OnRuns g c = not_on_runs c.args.service c.row_of.result c.in-Some-OnRuns.field-0 _ c.requires.plain c.row_of.ensures.row c.in-Some-OnRuns.is c.in-Some-OnRuns.field-0-is
+pub returns-else-service-eq3-clause-points : goal.returns-else-service-eq3-clause-points
+returns-else-service-eq3-clause-points g c =
+    let v : View = g.B.Bus.view c.args.bus.now in
+    let w : ℕ → ℕ = word_in c.in-Good.given.words in
+    let x = c.in-Some.row in
+    on_asked (λ a aims f bytes known bound.
+    names_by v c.args.cpu.now c.args.service c.args.next c.args.pid f bound bytes known x c.in-Some.ensures.row c.in-Good.given.words c.in-Good.ensures.gathers.read_in
+    ∙ ap (pointed (boundless f v)) (subst (λ (z : View). pointers_in x.slots.now (boundless f z) w ≡ targets a) c.gather.ensures.same (aims f))) c.serve.result c.serve.ensures.aims

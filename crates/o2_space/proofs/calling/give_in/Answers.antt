@@ -1,7 +1,7 @@
 use Rattle.std.proofs.Common.{refl}
 use Rattle.o2_segbus.specs.Calls.{view_of}
 use Rattle.o2_segbus.proofs.Called.{agrees, leaves}
-use Rattle.o2_gate.specs.Gathers.{targets}
+use Rattle.o2_gate.specs.Targets.{targets}
 use Rattle.o2_gate.proofs.Writing.{agrees_then}
 use Rattle.o2_stepping.proofs.Buses.{aimed_on, filling, given_there}
 use Rattle.o2_stepping.proofs.Gates.{frame_by}

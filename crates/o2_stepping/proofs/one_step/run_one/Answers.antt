@@ -1,12 +1,11 @@
-use Rattle.std.proofs.Common.{◌≡◌, inr, ℕ, [], List, Option, None, ap, sym, ◌∙◌, refl, subst, true}
+use Rattle.std.proofs.Common.{◌≡◌, ℕ, [], List, Option, None, ap, sym, ◌∙◌, refl, subst, true}
 use Rattle.std.specs.Prelude.{Result, Ok, Err}
 use Rattle.o2_outer.specs.Inputs.{left_as}
 use Rattle.o2_outer.proofs.TextLemmas.{gains_none}
 use Rattle.o2_isa.specs.declared.cpu.Stop.TheVariants as stop
 use Rattle.o2_isa.specs.View.{View, Filling, IsBound, whole, no_hidden}
-use Rattle.o2_isa.specs.Step.{stepped}
 use Rattle.o2_isa.specs.Steps.{State as Machine, state}
-use Rattle.o2_world.specs.Calls.{Effect, served, serviced, trapped}
+use Rattle.o2_world.specs.Calls.{Effect, serviced, trapped}
 use Rattle.o2_world.specs.Effect.{answered, single_stepped}
 use Rattle.o2_world.specs.World.{is_live}
 use Rattle.o2_world.specs.declared.types.State.{State}
@@ -17,22 +16,17 @@ use Rattle.o2_gate.specs.declared.called.Called.TheVariants as called
 use Rattle.o2_stepping.specs.Ran.{Leaves, IsDone}
 use Rattle.o2_stepping.specs.declared.tally.Tally.{Tally}
 use Rattle.o2_stepping.proofs.Leaving.{effect_by, done_by, ended_stays}
-use Rattle.o2_world.specs.Calls.{row_of}
-use Rattle.o2_world.proofs.Quiet.{served_quiet}
-use Rattle.o2_isa.specs.View.{Agrees, KeepsFrame}
-use Rattle.o2_gate.specs.Gathers.{row_for, targets}
+use Rattle.o2_gate.specs.Targets.{targets}
 use Rattle.o2_gate.specs.Pointed.{are_ready}
-use Rattle.o2_bus.specs.Writes.{WritesHeld}
-use Rattle.o2_stepping.specs.Ran.{OnAsked, OnMissed}
-use Rattle.o2_stepping.proofs.Gates.{done_boundless, trap_boundless, gate_boundless, away_by, whole_same, frame_by, frame_then, moved, by_answer, fault_by, still_of, missed_by, missed_of, none_asked, none_missed, none_undone, asks_by, asks_from, map_undone, wider_cause}
+use Rattle.o2_stepping.proofs.Gates.{done_boundless, trap_boundless, gate_boundless, away_by, whole_same, frame_by, frame_then, moved, by_answer, fault_by, still_of, missed_by, none_asked, none_missed, none_undone, asked_of, points_from, undone_missed, undone_of}
 use Rattle.o2_gate.proofs.Writing.{writes_data, writes_then, agrees_then}
-use Rattle.o2_stepping.proofs.Touches.{loads_missed, touched_present, call_missed, call_present, told_by, told_before, asked_before, asked_missed, asked_present}
+use Rattle.o2_stepping.proofs.Touches.{loads_missed, touched_present, call_missed, call_present, told_by, told_before}
 use Rattle.o2_world.specs.Effect.{effect}
 use Rattle.o2_run.specs.declared.fault.Fault.{Fault}
 use Rattle.o2_run.specs.Pieces.{Counts, counts, PartHands}
 use Rattle.o2_gate.specs.declared.called.Called.{Called}
 use Rattle.o2_stepping.specs.Pieces.{AttemptHands}
-use Rattle.o2_stepping.proofs.Puts.{no_hands, back_hands, exit_hands, trap_hands, fault_hands, behind, trap_part, fault_part}
+use Rattle.o2_stepping.proofs.Puts.{no_hands, asked_hands, back_hands, exit_hands, trap_hands, fault_hands, behind, trap_part, fault_part}
 use Rattle.o2_stepping.proofs.one_step.run_one.Goals as goal
 
 pub returns-in-Done-clause-leaves_as : goal.returns-in-Done-clause-leaves_as
@@ -47,7 +41,7 @@ returns-in-Done-clause-leaves_as g c = λ text m f input known bound left same.
     (g.R.Sink.taken c.args.report.now) (g.R.Sink.taken c.outlived.new.report) c.outlived.result)
     (sym (effect_by b r (done_boundless f v w c.args.cpu.now cpu (c.in-Done.ensures.boundless f bound))))
     (c.outlived.ensures.leaves f b (answered b r) cpu (whole f v).bytes w
-    (left_as text (g.I.Source.left c.args.input.now) (g.I.Source.past c.args.input.now)) _ _ _ _ refl refl (record { state = refl; piece = refl; lines = refl; cpu = refl; bytes = λ n. refl; input = left; to_console = gains_none _; to_report = gains_none _ }) refl)
+    (left_as text (g.I.Source.left c.args.input.now) (g.I.Source.past c.args.input.now)) _ _ _ _ refl refl (record { state = refl; piece = refl; lines = refl; cpu = refl; changes = refl; bytes = λ n. refl; input = left; to_console = gains_none _; to_report = gains_none _ }))
 
 pub returns-in-Done-clause-leaves : goal.returns-in-Done-clause-leaves
 returns-in-Done-clause-leaves g c = λ f input known bound left same. returns-in-Done-clause-leaves_as g c None tt f input known bound left same
@@ -105,7 +99,7 @@ returns-in-Ok-Back-clause-leaves_as g c = λ text m f input known bound left sam
     (g.R.Sink.taken c.args.report.now) (g.R.Sink.taken c.outlived-in-Ok-Back.new.report) c.outlived-in-Ok-Back.result)
     (sym (effect_by b (Err (stop.Gate c.in-Gate.service c.in-Gate.next)) (gate_boundless f v w c.args.cpu.now c.step_cached.new.cpu c.in-Gate.service c.in-Gate.next (c.in-Gate.ensures.boundless f bound))))
     (c.outlived-in-Ok-Back.ensures.leaves f b (serviced b c.in-Gate.service c.in-Gate.next) c.call.new.cpu (whole f v).bytes new
-    (left_as text (g.I.Source.left c.args.input.now) (g.I.Source.past c.args.input.now)) _ _ _ _ refl refl made (served_quiet (row_of c.in-Gate.service) b c.in-Gate.next (c.in-None.ensures.none refl)))
+    (left_as text (g.I.Source.left c.args.input.now) (g.I.Source.past c.args.input.now)) _ _ _ _ refl refl made)
 
 pub returns-in-Ok-Back-clause-leaves : goal.returns-in-Ok-Back-clause-leaves
 returns-in-Ok-Back-clause-leaves g c = λ f input known bound left same. returns-in-Ok-Back-clause-leaves_as g c None tt f input known bound left same
@@ -158,7 +152,7 @@ returns-in-Ok-Exited-clause-leaves_as g c = λ text m f input known bound left s
     (g.R.Sink.taken c.args.report.now) (g.R.Sink.taken c.call.new.report))
     (sym (effect_by b (Err (stop.Gate c.in-Gate.service c.in-Gate.next)) (gate_boundless f v w c.args.cpu.now c.step_cached.new.cpu c.in-Gate.service c.in-Gate.next (c.in-Gate.ensures.boundless f bound))
     ∙ ended_stays b e (ap is_live made.state)))
-    (done_by f e ends tally c.call.new.cpu new _ _ _ _ _ (served_quiet (row_of c.in-Gate.service) b c.in-Gate.next (c.in-None.ensures.none refl)) made)
+    (done_by f e ends tally c.call.new.cpu new _ _ _ _ _ made)
 
 pub returns-in-Ok-Exited-clause-leaves : goal.returns-in-Ok-Exited-clause-leaves
 returns-in-Ok-Exited-clause-leaves g c = λ f input known bound left same. returns-in-Ok-Exited-clause-leaves_as g c None tt f input known bound left same
@@ -190,7 +184,7 @@ returns-in-Err-clause-leaves_as g c = λ text m f input known bound left same.
     let new : View = g.B.Bus.view c.call.new.bus in
     let step = c.in-Gate.ensures.step in
     let bound_then : IsBound w = subst (λ (s : Machine). IsBound s.view) (sym step.1) bound in
-    fault_by f c.args.pid input known c.in-Gate.service c.in-Gate.next c.call.new.cpu new _ _ _ _ _ _ v c.args.cpu.now c.in-Err.fault (c.in-None.ensures.none refl)
+    fault_by f c.args.pid input known c.in-Gate.service c.in-Gate.next c.call.new.cpu new _ _ _ _ _ _ v c.args.cpu.now c.in-Err.fault
     (gate_boundless f v w c.args.cpu.now c.step_cached.new.cpu c.in-Gate.service c.in-Gate.next (c.in-Gate.ensures.boundless f bound)) c.in-Err.ensures.input_service
     (moved f c.args.pid input known c.in-Gate.service c.in-Gate.next c.call.new.cpu new _ _ _ _ _ _ (Err c.in-Err.fault) (state c.step_cached.new.cpu w) (state c.args.cpu.now v) step.1
     (c.in-Err.ensures.does text m f input known bound_then left (record { avail = same.avail })))
@@ -411,7 +405,7 @@ returns-in-Ok-Trap-clause-ready g c = none_asked c.trap-in-Ok-Trap.result _ c.tr
 pub returns-in-Ok-Missed-clause-still : goal.returns-in-Ok-Missed-clause-still
 returns-in-Ok-Missed-clause-still g c =
     let same = c.in-Gate.ensures.step.1 in
-    let did = missed_of _ c.in-Ok-Missed.field-0 c.in-Ok-Missed.sel c.in-Ok-Missed.field-0-is c.in-Ok-Missed.ensures.still in
+    let did = undone_missed _ c.in-Ok-Missed.field-0 c.in-Ok-Missed.sel c.in-Ok-Missed.field-0-is c.in-Ok-Missed.ensures.still in
     (did.0 ∙ ap (λ (s : Machine). s.cpu) same, did.1 ∙ ap (λ (s : Machine). s.view) same, did.2, did.3, did.4)
 
 pub returns-in-Done-clause-puts : goal.returns-in-Done-clause-puts
@@ -494,91 +488,70 @@ returns-in-Ok-Back-clause-part g c = λ f input known bound left same. returns-i
 
 -- A call on segments.
 
-pub call-requires : goal.call-requires
-call-requires g c = record { plain = c.in-None.ensures.none refl }
-
-pub returns-in-Some-clause-leaves_as : goal.returns-in-Some-clause-leaves_as
-returns-in-Some-clause-leaves_as g c = λ text m f input known bound left same.
+pub returns-in-Ok-Asked-clause-leaves_as : goal.returns-in-Ok-Asked-clause-leaves_as
+returns-in-Ok-Asked-clause-leaves_as g c = λ text m f input known bound left same.
     let v : View = g.B.Bus.view c.args.bus.now in
     let w : View = g.B.Bus.view c.step_cached.new.bus in
-    let new : View = g.B.Bus.view c.ask.new.bus in
-    let cpu = c.step_cached.new.cpu in
+    let new : View = g.B.Bus.view c.call.new.bus in
     let b = before_call (boundless f v) c.args.pid c.args.cpu.now input known in
-    let i = left_as text (g.I.Source.left c.args.input.now) (g.I.Source.past c.args.input.now) in
-    let d = g.C.Sink.taken c.args.console.now in
     let step = c.in-Gate.ensures.step in
     let bound_then : IsBound w = subst (λ (s : Machine). IsBound s.view) (sym step.1) bound in
-    subst (λ (e : Effect). Leaves b e cpu (whole f v).bytes (whole f new).bytes i i d d (g.R.Sink.taken c.args.report.now) (g.R.Sink.taken c.ask.new.report) c.ask.result)
-    (sym (asks_by b c.in-Gate.service c.in-Gate.next c.in-Some.which c.in-Some.ensures.some (gate_boundless f v w c.args.cpu.now cpu c.in-Gate.service c.in-Gate.next (c.in-Gate.ensures.boundless f bound))))
-    (asks_from f c.args.pid input known c.in-Some.which c.in-Gate.next cpu new i i d d _ _ c.ask.result (state cpu w) (state c.args.cpu.now v) step.1
-    (c.ask.ensures.leaves f input known i d bound_then left c.in-Gate.service c.in-Some.ensures.some
-    (subst (λ (s : Machine). stepped (state s.cpu (boundless f s.view)) ≡ Err (stop.Gate c.in-Gate.service c.in-Gate.next)) (sym step.1)
-    (gate_boundless f v w c.args.cpu.now cpu c.in-Gate.service c.in-Gate.next (c.in-Gate.ensures.boundless f bound)))))
+    let does = moved f c.args.pid input known c.in-Gate.service c.in-Gate.next c.call.new.cpu new _ _ _ _ _ _ (Ok c.in-Ok-Asked.field-0) (state c.step_cached.new.cpu w) (state c.args.cpu.now v) step.1
+    (c.in-Ok-Asked.ensures.does text m f input known bound_then left (record { avail = same.avail })) in
+    let asks = by_answer f c.args.pid input known c.in-Gate.service c.in-Gate.next c.call.new.cpu new _ _ _ _ _ _ v c.args.cpu.now c.in-Ok-Asked.field-0
+    (called.Asked c.in-Ok-Asked.arguments c.in-Ok-Asked.next) c.in-Ok-Asked.field-0-is does in
+    let gate = gate_boundless f v w c.args.cpu.now c.step_cached.new.cpu c.in-Gate.service c.in-Gate.next (c.in-Gate.ensures.boundless f bound) in
+    record {
+      effect = effect_by b (Err (stop.Gate c.in-Gate.service c.in-Gate.next)) gate ∙ ap (λ (e : Effect). single_stepped b e) asks.effect;
+      called = record {
+        service = c.in-Gate.service;
+        from = c.in-Gate.next;
+        gate = gate;
+        asks = asks.effect;
+        points = points_from c.args.pid input known f c.in-Gate.service c.in-Ok-Asked.arguments (state c.step_cached.new.cpu w) (state c.args.cpu.now v) step.1
+            (asked_of _ c.in-Ok-Asked.field-0 c.in-Ok-Asked.arguments c.in-Ok-Asked.next c.in-Ok-Asked.field-0-is c.in-Ok-Asked.ensures.points f input known bound_then);
+      };
+      still = still_of f c.call.new.cpu c.args.cpu.now v new _ _ _ _ _ _ asks.untouched;
+    }
 
-pub returns-in-Some-clause-leaves : goal.returns-in-Some-clause-leaves
-returns-in-Some-clause-leaves g c = λ f input known bound left same. returns-in-Some-clause-leaves_as g c None tt f input known bound left same
+pub returns-in-Ok-Asked-clause-leaves : goal.returns-in-Ok-Asked-clause-leaves
+returns-in-Ok-Asked-clause-leaves g c = λ f input known bound left same. returns-in-Ok-Asked-clause-leaves_as g c None tt f input known bound left same
 
-pub returns-in-Some-clause-away : goal.returns-in-Some-clause-away
-returns-in-Some-clause-away g c = λ bound. subst (λ (s : Machine). OnMissed c.ask.result (λ t. IsAway s.view t)) c.in-Gate.ensures.step.1 c.ask.ensures.away
+pub returns-in-Ok-Asked-clause-frame : goal.returns-in-Ok-Asked-clause-frame
+returns-in-Ok-Asked-clause-frame g c =
+    frame_then (g.B.Bus.view c.args.bus.now) (g.B.Bus.view c.step_cached.new.bus) (g.B.Bus.view c.call.new.bus) c.step_cached.ensures.frame
+    (frame_by (g.B.Bus.view c.step_cached.new.bus) (g.B.Bus.view c.call.new.bus) c.call.ensures.frame)
 
-pub returns-in-Some-clause-missed : goal.returns-in-Some-clause-missed
-returns-in-Some-clause-missed g c = λ f input known bound.
+pub returns-in-Ok-Asked-clause-writes : goal.returns-in-Ok-Asked-clause-writes
+returns-in-Ok-Asked-clause-writes g c = λ agrees.
+    writes_then (g.B.Bus.view c.args.bus.now) (g.B.Bus.view c.step_cached.new.bus) (g.B.Bus.view c.call.new.bus) c.step_cached.ensures.frame.held
+    (writes_data (g.B.Bus.view c.args.bus.now) (g.B.Bus.view c.step_cached.new.bus) c.args.cpu.now agrees c.step_cached.ensures.writes) c.call.ensures.writes
+
+pub returns-in-Ok-Asked-clause-agrees : goal.returns-in-Ok-Asked-clause-agrees
+returns-in-Ok-Asked-clause-agrees g c = λ agrees.
+    agrees_then c.step_cached.new.cpu c.call.new.cpu (g.B.Bus.view c.step_cached.new.bus) (g.B.Bus.view c.call.new.bus) c.call.ensures.frame c.call.ensures.selectors (c.step_cached.ensures.agrees agrees)
+
+pub returns-in-Ok-Asked-clause-present : goal.returns-in-Ok-Asked-clause-present
+returns-in-Ok-Asked-clause-present g c = λ f input known bound never.
     let v : View = g.B.Bus.view c.args.bus.now in
     let w : View = g.B.Bus.view c.step_cached.new.bus in
     let step = c.in-Gate.ensures.step in
     let bound_then : IsBound w = subst (λ (s : Machine). IsBound s.view) (sym step.1) bound in
-    asked_missed c.args.pid input known c.in-Some.which f v c.args.cpu.now c.in-Gate.service c.in-Gate.next
-    (gate_boundless f v w c.args.cpu.now c.step_cached.new.cpu c.in-Gate.service c.in-Gate.next (c.in-Gate.ensures.boundless f bound)) c.in-Some.ensures.some c.ask.result
-    (asked_before c.args.pid input known c.in-Some.which c.ask.result (state c.step_cached.new.cpu w) (state c.args.cpu.now v) step.1 (c.ask.ensures.names input known bound_then))
+    call_present f v c.args.cpu.now c.args.pid input known c.in-Gate.service c.in-Gate.next
+    (gate_boundless f v w c.args.cpu.now c.step_cached.new.cpu c.in-Gate.service c.in-Gate.next (c.in-Gate.ensures.boundless f bound)) (c.in-Gate.ensures.present f bound refl)
+    (told_by c.args.pid input known c.in-Gate.service c.in-Ok-Asked.field-0 (called.Asked c.in-Ok-Asked.arguments c.in-Ok-Asked.next) (state c.step_cached.new.cpu w) (state c.args.cpu.now v)
+    c.in-Ok-Asked.field-0-is step.1 (c.in-Ok-Asked.ensures.names input known bound_then) f)
 
-pub returns-in-Some-clause-present : goal.returns-in-Some-clause-present
-returns-in-Some-clause-present g c = λ f input known bound never.
-    let v : View = g.B.Bus.view c.args.bus.now in
-    let w : View = g.B.Bus.view c.step_cached.new.bus in
-    let step = c.in-Gate.ensures.step in
-    let bound_then : IsBound w = subst (λ (s : Machine). IsBound s.view) (sym step.1) bound in
-    asked_present c.args.pid input known c.in-Some.which f v c.args.cpu.now c.in-Gate.service c.in-Gate.next
-    (gate_boundless f v w c.args.cpu.now c.step_cached.new.cpu c.in-Gate.service c.in-Gate.next (c.in-Gate.ensures.boundless f bound)) c.in-Some.ensures.some c.ask.result never
-    (c.in-Gate.ensures.present f bound refl)
-    (asked_before c.args.pid input known c.in-Some.which c.ask.result (state c.step_cached.new.cpu w) (state c.args.cpu.now v) step.1 (c.ask.ensures.names input known bound_then))
-
-pub returns-in-Some-clause-still : goal.returns-in-Some-clause-still
-returns-in-Some-clause-still g c =
+pub returns-in-Ok-Asked-clause-still : goal.returns-in-Ok-Asked-clause-still
+returns-in-Ok-Asked-clause-still g c =
     let same = c.in-Gate.ensures.step.1 in
-    map_undone _ _ c.ask.result (λ report. (ap (λ (s : Machine). s.cpu) same, c.ask.ensures.same ∙ ap (λ (s : Machine). s.view) same, refl, refl, report)) c.ask.ensures.undone
+    let did = undone_of _ c.in-Ok-Asked.field-0 c.in-Ok-Asked.arguments c.in-Ok-Asked.next c.in-Ok-Asked.field-0-is c.in-Ok-Asked.ensures.still in
+    (did.0 ∙ ap (λ (s : Machine). s.cpu) same, did.1 ∙ ap (λ (s : Machine). s.view) same, did.2, did.3, did.4)
 
-pub returns-in-Some-clause-ready : goal.returns-in-Some-clause-ready
-returns-in-Some-clause-ready g c = subst (λ (s : Machine). OnAsked c.ask.result (λ a. are_ready s.view (targets a) ≡ true)) c.in-Gate.ensures.step.1 c.ask.ensures.ready
+pub returns-in-Ok-Asked-clause-ready : goal.returns-in-Ok-Asked-clause-ready
+returns-in-Ok-Asked-clause-ready g c =
+    subst (λ (s : Machine). are_ready s.view (targets c.in-Ok-Asked.arguments) ≡ true) c.in-Gate.ensures.step.1
+    (asked_of _ c.in-Ok-Asked.field-0 c.in-Ok-Asked.arguments c.in-Ok-Asked.next c.in-Ok-Asked.field-0-is c.in-Ok-Asked.ensures.ready)
 
-pub returns-in-Some-clause-frame : goal.returns-in-Some-clause-frame
-returns-in-Some-clause-frame g c = subst (λ (v : View). KeepsFrame (g.B.Bus.view c.args.bus.now) v) (sym c.ask.ensures.same) c.step_cached.ensures.frame
-
-pub returns-in-Some-clause-writes : goal.returns-in-Some-clause-writes
-returns-in-Some-clause-writes g c = λ agrees.
-    subst (λ (v : View). WritesHeld (g.B.Bus.view c.args.bus.now) v) (sym c.ask.ensures.same)
-    (writes_data (g.B.Bus.view c.args.bus.now) (g.B.Bus.view c.step_cached.new.bus) c.args.cpu.now agrees c.step_cached.ensures.writes)
-
-pub returns-in-Some-clause-agrees : goal.returns-in-Some-clause-agrees
-returns-in-Some-clause-agrees g c = λ agrees. subst (λ (v : View). Agrees c.step_cached.new.cpu v) (sym c.ask.ensures.same) (c.step_cached.ensures.agrees agrees)
-
-pub returns-in-Some-clause-cause : goal.returns-in-Some-clause-cause
-returns-in-Some-clause-cause g c = wider_cause _ _ _ _ c.ask.result inr (λ never. absurd never) c.ask.ensures.cause
-
-pub returns-in-Some-clause-puts : goal.returns-in-Some-clause-puts
-returns-in-Some-clause-puts g c = c.ask.ensures.puts _
-
-pub returns-in-Some-clause-part_as : goal.returns-in-Some-clause-part_as
-returns-in-Some-clause-part_as g c = λ text m f input known bound left same.
-    let v : View = g.B.Bus.view c.args.bus.now in
-    let w : View = g.B.Bus.view c.step_cached.new.bus in
-    let b = before_call (boundless f v) c.args.pid c.args.cpu.now input known in
-    let step = c.in-Gate.ensures.step in
-    let bound_then : IsBound w = subst (λ (s : Machine). IsBound s.view) (sym step.1) bound in
-    let n = counts (g.C.Sink.puts c.args.console.now) (g.C.Sink.puts c.args.console.now) (g.R.Sink.puts c.args.report.now) (g.R.Sink.puts c.ask.new.report) 0 in
-    subst (λ (e : Effect). PartHands e n c.ask.result)
-    (sym (asks_by b c.in-Gate.service c.in-Gate.next c.in-Some.which c.in-Some.ensures.some (gate_boundless f v w c.args.cpu.now c.step_cached.new.cpu c.in-Gate.service c.in-Gate.next (c.in-Gate.ensures.boundless f bound))))
-    (subst (λ (s : Machine). let z = before_call (boundless f s.view) c.args.pid s.cpu input known in PartHands (single_stepped z (served (row_for c.in-Some.which) z c.in-Gate.next)) n c.ask.result) step.1
-    (c.ask.ensures.part f input known _ bound_then))
-
-pub returns-in-Some-clause-part : goal.returns-in-Some-clause-part
-returns-in-Some-clause-part g c = λ f input known bound left same. returns-in-Some-clause-part_as g c None tt f input known bound left same
+pub returns-in-Ok-Asked-clause-puts : goal.returns-in-Ok-Asked-clause-puts
+returns-in-Ok-Asked-clause-puts g c = asked_hands _ c.in-Ok-Asked.field-0 c.in-Ok-Asked.ensures.puts _ _ c.in-Ok-Asked.field-0-is

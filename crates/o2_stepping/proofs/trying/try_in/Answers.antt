@@ -1,6 +1,6 @@
 use Rattle.std.proofs.Common.{◌≡◌, true, subst, sym}
 use Rattle.o2_isa.specs.View.{View}
-use Rattle.o2_gate.specs.Gathers.{targets}
+use Rattle.o2_gate.specs.Targets.{targets}
 use Rattle.o2_gate.specs.Pointed.{are_ready}
 use Rattle.o2_run.specs.Pieces.{counts}
 use Rattle.o2_segbus.proofs.Called.{agrees, bound, leaves}

@@ -5,7 +5,7 @@ use Rattle.o2_outer.specs.Texts.{Rose}
 use Rattle.o2_isa.specs.View.{bound_registers}
 use Rattle.o2_regions.specs.Lives.{lives}
 use Rattle.o2_segbus.specs.Seen.{hold_in, seen}
-use Rattle.o2_gate.specs.Gathers.{targets}
+use Rattle.o2_gate.specs.Targets.{targets}
 use Rattle.o2_gate.specs.Pointed.{are_ready}
 use Rattle.o2_world.specs.Effect.{effect}
 use Rattle.o2_world.specs.Run.{before, changed}

@@ -25,7 +25,7 @@ use Rattle.o2_calls.specs.declared.noting.Counted.{Counted}
 use Rattle.o2_calls.specs.Noted.{counted_by, noted}
 use Rattle.o2_calls.proofs.NotedTold.{all_noted}
 use Rattle.o2_gate.specs.MovedLines.{all_lines}
-use Rattle.o2_gate.specs.Replies.{name_of}
+use Rattle.o2_gate.specs.Targets.{name_of}
 use Rattle.o2_world.specs.Changes.{moved_lines}
 use Rattle.o2_space.proofs.Aimed.{aimed_kept}
 use Rattle.o2_space.proofs.Whole.{whole_same}
@@ -33,7 +33,8 @@ use Rattle.o2_space.proofs.Called.{called}
 use Rattle.o2_service.specs.Needs.{segments_of}
 use Rattle.o2_space.proofs.CallSays.{fits_at, full_at, lacks_at, run_full, short_at, unrefused_by}
 use Rattle.o2_space.proofs.Beginning.{over_here, spells_here}
-use Rattle.o2_space.proofs.Making.{kept_named, on_device, process_called, ready_called, ready_given, stays_at, value_of}
+use Rattle.o2_space.proofs.Making.{kept_named, on_device, process_called, ready_called, ready_given, stays_at}
+use Rattle.o2_space.proofs.ForValues.{value_of}
 use Rattle.o2_store.specs.Idle.{NoneTaken}
 use Rattle.o2_store.specs.Shelf.{Shelf}
 use Rattle.o2_store.proofs.Framing.{device_for}
@@ -143,7 +144,7 @@ returns-in-SwapFull-clause-room g c = λ s w x tells here turn live same call ro
     (record { there = here.process; call = call; step = c.requires.can_step; ready = c.requires.aimed; keeps = c.ids.ensures ∙ ap segments_of c.call_need-need.ensures })
     (c.in-SwapFull.ensures.row p s w over spells).answer
     (c.in-SwapFull.ensures.stops tt) (c.in-SwapFull.ensures.swap_full refl)
-    (run_full c.args.arguments c.args.self.now.store (known_of s w) c.args.pid c.args.cpu.now _ (c.in-SwapFull.ensures.row p s w over spells).lacks)
+    (run_full c.args.arguments.request c.args.self.now.store (known_of s w) c.args.pid c.args.cpu.now _ (c.in-SwapFull.ensures.row p s w over spells).lacks)
 
 pub returns-in-SwapFull-clause-together : goal.returns-in-SwapFull-clause-together
 returns-in-SwapFull-clause-together g c =
@@ -205,14 +206,14 @@ returns-in-Done-clause-makes g c = λ s w x tells here agrees tied same.
     let p : Parts = parts_in m (S.blocks c.args.swap.now) (S.block c.args.swap.now) in
     let over = over_here m (S.blocks c.args.swap.now) (S.block c.args.swap.now) s w here.stands agrees c.lawful.ensures in
     let spells = spells_here m (S.blocks c.args.swap.now) (S.block c.args.swap.now) s w here.stands agrees c.requires.together in
-    let answers = subst (λ (z : Cpu). Answers (ruling_of a (known_of s w) pid z) c.in-Done.answer) same (c.in-Done.ensures.row p s w over spells).answer in
+    let answers = subst (λ (z : Cpu). Answers (ruling_of a.request (known_of s w) pid z) c.in-Done.answer) same (c.in-Done.ensures.row p s w over spells).answer in
     let behind = replied_by a (before s w pid x) c.args.next in
     let registers =
     c.come_back.ensures
-    ∙ (ap (λ (z : Cpu). returned z c.args.next (words_of a) c.in-Done.answer.error) ((c.in-Done.ensures.row p s w over spells).registers ∙ ap (cpu_of a (known_of s w) pid) same)
-    ∙ ap (λ (k : ℕ). returned (cpu_of a (known_of s w) pid x.cpu) c.args.next (words_of a) k) answers.error) in
+    ∙ (ap (λ (z : Cpu). returned z c.args.next (words_of a) c.in-Done.answer.error) ((c.in-Done.ensures.row p s w over spells).registers ∙ ap (cpu_of a.request (known_of s w) pid) same)
+    ∙ ap (λ (k : ℕ). returned (cpu_of a.request (known_of s w) pid x.cpu) c.args.next (words_of a) k) answers.error) in
     let matches =
-    subst (λ (z : Cpu). Matches (moved p t n block) (with_all w (ruling_of a (known_of s w) pid z).changes)) same
+    subst (λ (z : Cpu). Matches (moved p t n block) (with_all w (ruling_of a.request (known_of s w) pid z).changes)) same
     ((c.in-Done.ensures.row p s w over spells).matches x tells here.process tied) in
     let ready =
     ready_called m.store t m.regions n m.images (S.blocks c.args.swap.now) (S.block c.args.swap.now) block (running_at m.procs.items) (c.requires.together.ready (S.block c.args.swap.now))
@@ -247,10 +248,10 @@ returns-in-Done-clause-moves g c = λ s w x tells here agrees tied same.
     let over = over_here m (S.blocks c.args.swap.now) (S.block c.args.swap.now) s w here.stands agrees c.lawful.ensures in
     let spells = spells_here m (S.blocks c.args.swap.now) (S.block c.args.swap.now) s w here.stands agrees c.requires.together in
     let told =
-    all_noted p n s w x pid c.args.cpu.now c.lawful.ensures agrees.set here.stands c.requires.can_step.process spells.processes c.act.ensures.processes here.process a answer
+    all_noted p n s w x pid c.args.cpu.now c.lawful.ensures agrees.set here.stands c.requires.can_step.process spells.processes c.act.ensures.processes here.process (name_of a) a.request answer
     (moved p c.act.new.store n (S.block c.act.new.swap)) refl ((c.in-Done.ensures.row p s w over spells).matches x tells here.process tied) (c.in-Done.ensures.row p s w over spells).answer in
-    let is : c.note.new.moves ≡ noted a pid (counted_by a m.regions pid) n (Done answer) = c.note.ensures.notes ∙ ap (λ (d : Counted). noted a pid d n (Done answer)) c.count-counted.ensures in
-    ap (all_lines (name_of a)) is ∙ (told.lines ∙ ap (λ (z : Cpu). moved_lines (name_of a) (ruling_of a (known_of s w) pid z).changes) same)
+    let is : c.note.new.moves ≡ noted a.request pid (counted_by a.request m.regions pid) n (Done answer) = c.note.ensures.notes ∙ ap (λ (d : Counted). noted a.request pid d n (Done answer)) c.count-counted.ensures in
+    ap (all_lines (name_of a)) is ∙ (told.lines ∙ ap (λ (z : Cpu). moved_lines (name_of a) (ruling_of a.request (known_of s w) pid z).changes) same)
 
 pub returns-in-Done-clause-together : goal.returns-in-Done-clause-together
 returns-in-Done-clause-together g c =
@@ -296,7 +297,7 @@ returns-in-NoRoom-clause-spells g c = λ s w x stands agrees same.
     let p : Parts = parts_in m (S.blocks c.args.swap.now) (S.block c.args.swap.now) in
     let over = over_here m (S.blocks c.args.swap.now) (S.block c.args.swap.now) s w stands agrees c.lawful.ensures in
     let spells = spells_here m (S.blocks c.args.swap.now) (S.block c.args.swap.now) s w stands agrees c.requires.together in
-    stops_unnamed c.args.arguments (c.in-NoRoom.ensures.stops tt) c.act.new.store m.names c.act.new.names (with_all w (ruling_of c.args.arguments (known_of s w) c.args.pid c.args.cpu.now).changes)
+    stops_unnamed c.args.arguments.request (c.in-NoRoom.ensures.stops tt) c.act.new.store m.names c.act.new.names (with_all w (ruling_of c.args.arguments.request (known_of s w) c.args.pid c.args.cpu.now).changes)
     (c.act.ensures.row p s w over spells).spells
 
 pub returns-in-NoRoom-clause-behind : goal.returns-in-NoRoom-clause-behind
@@ -309,7 +310,7 @@ returns-in-SwapFull-clause-spells g c = λ s w x stands agrees same.
     let p : Parts = parts_in m (S.blocks c.args.swap.now) (S.block c.args.swap.now) in
     let over = over_here m (S.blocks c.args.swap.now) (S.block c.args.swap.now) s w stands agrees c.lawful.ensures in
     let spells = spells_here m (S.blocks c.args.swap.now) (S.block c.args.swap.now) s w stands agrees c.requires.together in
-    stops_unnamed c.args.arguments (c.in-SwapFull.ensures.stops tt) c.act.new.store m.names c.act.new.names (with_all w (ruling_of c.args.arguments (known_of s w) c.args.pid c.args.cpu.now).changes)
+    stops_unnamed c.args.arguments.request (c.in-SwapFull.ensures.stops tt) c.act.new.store m.names c.act.new.names (with_all w (ruling_of c.args.arguments.request (known_of s w) c.args.pid c.args.cpu.now).changes)
     (c.act.ensures.row p s w over spells).spells
 
 pub returns-in-SwapFull-clause-behind : goal.returns-in-SwapFull-clause-behind
@@ -322,7 +323,7 @@ returns-in-SwapFault-clause-spells g c = λ s w x stands agrees same.
     let p : Parts = parts_in m (S.blocks c.args.swap.now) (S.block c.args.swap.now) in
     let over = over_here m (S.blocks c.args.swap.now) (S.block c.args.swap.now) s w stands agrees c.lawful.ensures in
     let spells = spells_here m (S.blocks c.args.swap.now) (S.block c.args.swap.now) s w stands agrees c.requires.together in
-    stops_unnamed c.args.arguments (c.in-SwapFault.ensures.stops tt) c.act.new.store m.names c.act.new.names (with_all w (ruling_of c.args.arguments (known_of s w) c.args.pid c.args.cpu.now).changes)
+    stops_unnamed c.args.arguments.request (c.in-SwapFault.ensures.stops tt) c.act.new.store m.names c.act.new.names (with_all w (ruling_of c.args.arguments.request (known_of s w) c.args.pid c.args.cpu.now).changes)
     (c.act.ensures.row p s w over spells).spells
 
 pub returns-in-SwapFault-clause-behind : goal.returns-in-SwapFault-clause-behind
@@ -338,8 +339,8 @@ returns-in-Done-clause-spells g c = λ s w x stands agrees same.
     let p : Parts = parts_in m (S.blocks c.args.swap.now) (S.block c.args.swap.now) in
     let over = over_here m (S.blocks c.args.swap.now) (S.block c.args.swap.now) s w stands agrees c.lawful.ensures in
     let spells = spells_here m (S.blocks c.args.swap.now) (S.block c.args.swap.now) s w stands agrees c.requires.together in
-    leaves_written a t c.give.new.store c.give.ensures.store m.names names (with_all w (ruling_of a (known_of s w) c.args.pid x.cpu).changes)
-    (subst (λ (z : Cpu). LeavesSpelled a t m.names names (with_all w (ruling_of a (known_of s w) c.args.pid z).changes)) same
+    leaves_written a.request t c.give.new.store c.give.ensures.store m.names names (with_all w (ruling_of a.request (known_of s w) c.args.pid x.cpu).changes)
+    (subst (λ (z : Cpu). LeavesSpelled a.request t m.names names (with_all w (ruling_of a.request (known_of s w) c.args.pid z).changes)) same
     (c.act.ensures.row p s w over spells).spells)
 
 pub returns-in-Done-clause-behind : goal.returns-in-Done-clause-behind
@@ -365,7 +366,7 @@ returns-in-NoRoom-clause-idle g c = λ s w x here turn live same call fit none.
         | inr run ↦ absurd
             (let more = short_at p s w x c.lawful.ensures turn.agrees.set here.stands live turn.sound c.args.arguments c.args.next c.args.cpu.now same _ c.args.pid turn.turn
             (record { there = here.process; call = call; step = c.requires.can_step; ready = c.requires.aimed; keeps = c.ids.ensures ∙ ap segments_of c.call_need-need.ensures })
-            (unrefused_by c.args.arguments (ruling_of c.args.arguments (known_of s w) c.args.pid c.args.cpu.now) c.act.result
+            (unrefused_by c.args.arguments.request (ruling_of c.args.arguments.request (known_of s w) c.args.pid c.args.cpu.now) c.act.result
             (c.act.ensures.row p s w over spells).answer short.unrefused)
             short.stops short.lacks run in
             omega (arith, more, fit))
@@ -386,7 +387,7 @@ returns-in-SwapFull-clause-idle g c = λ s w x here turn live same call fit none
         | inr run ↦ absurd
             (let more = short_at p s w x c.lawful.ensures turn.agrees.set here.stands live turn.sound c.args.arguments c.args.next c.args.cpu.now same _ c.args.pid turn.turn
             (record { there = here.process; call = call; step = c.requires.can_step; ready = c.requires.aimed; keeps = c.ids.ensures ∙ ap segments_of c.call_need-need.ensures })
-            (unrefused_by c.args.arguments (ruling_of c.args.arguments (known_of s w) c.args.pid c.args.cpu.now) c.act.result
+            (unrefused_by c.args.arguments.request (ruling_of c.args.arguments.request (known_of s w) c.args.pid c.args.cpu.now) c.act.result
             (c.act.ensures.row p s w over spells).answer short.unrefused)
             short.stops short.lacks run in
             omega (arith, more, fit))
@@ -407,7 +408,7 @@ returns-in-SwapFault-clause-idle g c = λ s w x here turn live same call fit non
         | inr run ↦ absurd
             (let more = short_at p s w x c.lawful.ensures turn.agrees.set here.stands live turn.sound c.args.arguments c.args.next c.args.cpu.now same _ c.args.pid turn.turn
             (record { there = here.process; call = call; step = c.requires.can_step; ready = c.requires.aimed; keeps = c.ids.ensures ∙ ap segments_of c.call_need-need.ensures })
-            (unrefused_by c.args.arguments (ruling_of c.args.arguments (known_of s w) c.args.pid c.args.cpu.now) c.act.result
+            (unrefused_by c.args.arguments.request (ruling_of c.args.arguments.request (known_of s w) c.args.pid c.args.cpu.now) c.act.result
             (c.act.ensures.row p s w over spells).answer short.unrefused)
             short.stops short.lacks run in
             omega (arith, more, fit))
@@ -428,7 +429,7 @@ returns-in-Done-clause-idle g c = λ s w x here turn live same call fit none.
         | inr run ↦ absurd
             (let more = short_at p s w x c.lawful.ensures turn.agrees.set here.stands live turn.sound c.args.arguments c.args.next c.args.cpu.now same _ c.args.pid turn.turn
             (record { there = here.process; call = call; step = c.requires.can_step; ready = c.requires.aimed; keeps = c.ids.ensures ∙ ap segments_of c.call_need-need.ensures })
-            (unrefused_by c.args.arguments (ruling_of c.args.arguments (known_of s w) c.args.pid c.args.cpu.now) c.act.result
+            (unrefused_by c.args.arguments.request (ruling_of c.args.arguments.request (known_of s w) c.args.pid c.args.cpu.now) c.act.result
             (c.act.ensures.row p s w over spells).answer short.unrefused)
             short.stops short.lacks run in
             omega (arith, more, fit))
