@@ -17,45 +17,50 @@ fn with_word<'a>(
     about: &'a str,
     word: &'a str,
 ) -> Result<Command<'a>, AllocError> {
-    let word = Arg::new(alloc, word).required(true);
     Command::new(alloc, name)
         .about(about)
         .arg(Arg::new(alloc, "FILE").required(true))?
-        .arg(word)
+        .arg(Arg::new(alloc, word).required(true))
 }
 
-/// The program with its first subcommands.
-fn of_one<'a>(alloc: Global) -> Result<Command<'a>, AllocError> {
-    Command::new(alloc, "os2core")
-        .version("1.0.0")
-        .about("Shows a core image, which tells where a machine's memory was")
-        .subcommand_required(true)
-        .subcommand(with_file(
-            alloc,
-            "show",
-            "Shows memory, segments, swap device and processes as text",
-        )?)?
-        .subcommand(with_file(alloc, "svg", "Draws memory and swap device as SVG")?)
+/// A subcommand with a file, and one more word where that has a name.
+fn verb<'a>(
+    alloc: Global,
+    name: &'a str,
+    about: &'a str,
+    word: &'a str,
+) -> Result<Command<'a>, AllocError> {
+    if word.is_empty() {
+        with_file(alloc, name, about)
+    } else {
+        with_word(alloc, name, about, word)
+    }
 }
 
-/// The program with one more.
-fn of_segments<'a>(alloc: Global) -> Result<Command<'a>, AllocError> {
-    let segment = with_word(
-        alloc,
-        "segment",
-        "Shows the bytes of a segment by its number",
-        "NUMBER",
-    )?;
-    of_one(alloc)?.subcommand(segment)
+/// A command with one more subcommand.
+fn and_verb<'a>(
+    alloc: Global,
+    command: Command<'a>,
+    name: &'a str,
+    about: &'a str,
+    word: &'a str,
+) -> Result<Command<'a>, AllocError> {
+    let verb = verb(alloc, name, about, word)?;
+    command.subcommand(verb)
 }
 
 /// The program's words.
 pub fn program<'a>(alloc: Global) -> Result<Command<'a>, AllocError> {
-    let difference = with_word(
-        alloc,
-        "difference",
-        "Shows what differs in a second image",
-        "OTHER",
-    )?;
-    of_segments(alloc)?.subcommand(difference)
+    let command = Command::new(alloc, "os2core")
+        .version("1.0.0")
+        .about("Shows a core image, which tells where a machine's memory was")
+        .subcommand_required(true);
+    let about = "Shows memory, segments, swap device and processes as text";
+    let command = and_verb(alloc, command, "show", about, "")?;
+    let about = "Draws memory and swap device as SVG";
+    let command = and_verb(alloc, command, "svg", about, "")?;
+    let about = "Shows the bytes of a segment by its number";
+    let command = and_verb(alloc, command, "segment", about, "NUMBER")?;
+    let about = "Shows what differs in a second image";
+    and_verb(alloc, command, "difference", about, "OTHER")
 }

@@ -4,25 +4,13 @@ use o2_dump::{Core, Held, Process};
 use std::alloc::{AllocError, Global};
 use std::fmt;
 
-/// That a process holds a segment at an index.
-#[derive(Clone, Copy, Debug, PartialEq, Eq, PartialOrd, Ord)]
-pub struct Holder {
-    /// The number of the segment.
-    pub segment: u32,
-    /// The number of the process.
-    pub process: u16,
-    /// The index.
-    pub index: u16,
-}
+/// That a process holds a segment at an index: the numbers of segment and process, and the index.
+pub type Holder = (u32, u16, u16);
 
 /// Adds what a process holds.
 fn add(holders: &mut Vec<Holder>, number: u16, held: &[Held]) -> Result<(), AllocError> {
     for one in held {
-        holders.push(Holder {
-            segment: one.segment,
-            process: number,
-            index: one.index,
-        })?;
+        holders.push((one.segment, number, one.index))?;
     }
     Ok(())
 }
@@ -45,12 +33,12 @@ pub fn holders(alloc: Global, core: &Core) -> Result<Vec<Holder>, AllocError> {
 
 /// The holders of a segment.
 pub fn of_segment(holders: &[Holder], segment: u32) -> &[Holder] {
-    let from = holders.partition_point(|one| one.segment < segment);
+    let from = holders.partition_point(|one| one.0 < segment);
     let rest = match holders.split_at_checked(from) {
         Some((_, rest)) => rest,
         None => return &[],
     };
-    let count = rest.partition_point(|one| one.segment == segment);
+    let count = rest.partition_point(|one| one.0 == segment);
     match rest.split_at_checked(count) {
         Some((found, _)) => found,
         None => &[],
@@ -61,14 +49,24 @@ pub fn of_segment(holders: &[Holder], segment: u32) -> &[Holder] {
 #[derive(Clone, Copy)]
 pub struct HeldBy<'a>(pub &'a [Holder]);
 
+/// A holder behind a mark.
+fn put_holder<W: fmt::Write>(
+    f: &mut fmt::Formatter<W>,
+    mark: &str,
+    process: u16,
+    index: u16,
+) -> fmt::Result {
+    write!(f, "{mark}{process}:{:04X}h", selector(index))
+}
+
 impl fmt::Display for HeldBy<'_> {
     fn fmt<W: fmt::Write>(&self, f: &mut fmt::Formatter<W>) -> fmt::Result {
         if self.0.is_empty() {
             return f.write_str("-");
         }
         let mut mark = "";
-        for one in self.0 {
-            write!(f, "{mark}{}:{:04X}h", one.process, selector(one.index))?;
+        for (_, process, index) in self.0 {
+            put_holder(f, mark, *process, *index)?;
             mark = " ";
         }
         Ok(())

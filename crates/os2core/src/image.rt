@@ -1,6 +1,6 @@
 // The image of a file.
 
-use o2_base::{Fail, NoMemory};
+use o2_base::{Bytes, Fail};
 use o2_dump::{Core, CoreFault};
 use o2_outer::{Fetch, Files, FolderFiles};
 use o2_tool::file_name;
@@ -27,22 +27,31 @@ pub enum Opened {
 /// may ask for.
 const MOST: u32 = 67_108_864;
 
-/// The image in the file of this name.
+/// The file of this name.
+fn fetched(rt: &HostRuntime, name: &Bytes) -> Fetch {
+    let mut files = FolderFiles::new(rt);
+    files.fetch(rt.alloc(), name, MOST)
+}
+
+/// The image in a file.
+fn image_of(rt: &HostRuntime, file: &Bytes) -> Opened {
+    match Core::read(rt.alloc(), file.as_slice()) {
+        Ok(core) => Opened::Core(core),
+        Err(Fail::Bad(fault)) => Opened::Refused(fault),
+        Err(Fail::NoMemory) => Opened::NoMemory,
+    }
+}
+
+/// The image in the file of this name, which is a word of the command.
 pub fn open(rt: &HostRuntime, word: &str) -> anyhow::Result<Opened> {
     let name = file_name(rt.alloc(), word)?;
-    let mut files = FolderFiles::new(rt);
-    let file = match files.fetch(rt.alloc(), &name, MOST) {
-        Fetch::Got(file) => file,
-        Fetch::NoFile => return Ok(Opened::NoFile),
-        Fetch::TooLong => return Ok(Opened::TooLong),
-        Fetch::Failed => return Ok(Opened::Failed),
-        Fetch::NoMemory => return Ok(Opened::NoMemory),
-    };
-    match Core::read(rt.alloc(), file.as_slice()) {
-        Ok(core) => Ok(Opened::Core(core)),
-        Err(Fail::Bad(fault)) => Ok(Opened::Refused(fault)),
-        Err(Fail::NoMemory) => Ok(Opened::NoMemory),
-    }
+    Ok(match fetched(rt, &name) {
+        Fetch::Got(file) => image_of(rt, &file),
+        Fetch::NoFile => Opened::NoFile,
+        Fetch::TooLong => Opened::TooLong,
+        Fetch::Failed => Opened::Failed,
+        Fetch::NoMemory => Opened::NoMemory,
+    })
 }
 
 /// Why a file is refused, as a sentence.

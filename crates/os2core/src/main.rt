@@ -3,6 +3,7 @@
 
 mod changes;
 mod command;
+mod drawn;
 mod facts;
 mod holders;
 mod image;
@@ -14,6 +15,7 @@ mod spans;
 mod tables;
 
 use clap::ArgMatches;
+use holders::Holder;
 use image::{Opened, open};
 use o2_dump::Core;
 use o2_tool::{FAILED, MISUSED, REFUSED, Shown, answered, ended, words};
@@ -22,9 +24,14 @@ use std::process::ExitCode;
 /// The image as text: the memory, the segments that aren't in it, the swap device, and the processes.
 fn show(rt: &HostRuntime, core: &Core) -> anyhow::Result<ExitCode> {
     let holders = holders::holders(rt.alloc(), core)?;
+    show_tables(rt, core, holders.as_slice())
+}
+
+/// The tables of an image, whose segments are held so.
+fn show_tables(rt: &HostRuntime, core: &Core, holders: &[Holder]) -> anyhow::Result<ExitCode> {
     tables::list_head(rt, core)?;
-    tables::list_memory(rt, core, holders.as_slice())?;
-    tables::list_absent(rt, core, holders.as_slice())?;
+    tables::list_memory(rt, core, holders)?;
+    tables::list_absent(rt, core, holders)?;
     tables::list_blocks(rt, core)?;
     processes::list_processes(rt, core)?;
     Ok(ExitCode::SUCCESS)
@@ -57,35 +64,47 @@ fn unread(rt: &HostRuntime, word: &str, why: &Opened) -> anyhow::Result<ExitCode
     }
 }
 
-/// Shows one image.
+/// Shows an image.
+fn shown(
+    rt: &HostRuntime,
+    verb: &str,
+    core: &Core,
+    found: &ArgMatches<'_>,
+) -> anyhow::Result<ExitCode> {
+    match verb {
+        "show" => show(rt, core),
+        "svg" => picture::draw(rt, core),
+        _ => segment::list(rt, core, found.get_str("NUMBER").unwrap_or("")),
+    }
+}
+
+/// Shows the image in a file.
 fn show_one(
     rt: &HostRuntime,
     verb: &str,
     word: &str,
     found: &ArgMatches<'_>,
 ) -> anyhow::Result<ExitCode> {
-    let core = match open(rt, word)? {
-        Opened::Core(core) => core,
-        other => return unread(rt, word, &other),
-    };
-    match verb {
-        "show" => show(rt, &core),
-        "svg" => picture::draw(rt, &core),
-        _ => segment::list(rt, &core, found.get_str("NUMBER").unwrap_or("")),
+    match open(rt, word)? {
+        Opened::Core(core) => shown(rt, verb, &core, found),
+        other => unread(rt, word, &other),
     }
 }
 
-/// Shows what differs in a second image.
+/// Shows what differs in the image of a second file.
+fn compare_with(rt: &HostRuntime, old: &Core, second: &str) -> anyhow::Result<ExitCode> {
+    match open(rt, second)? {
+        Opened::Core(new) => changes::list(rt, old, &new),
+        other => unread(rt, second, &other),
+    }
+}
+
+/// Shows what differs in the images of two files.
 fn compare(rt: &HostRuntime, first: &str, second: &str) -> anyhow::Result<ExitCode> {
-    let old = match open(rt, first)? {
-        Opened::Core(core) => core,
-        other => return unread(rt, first, &other),
-    };
-    let new = match open(rt, second)? {
-        Opened::Core(core) => core,
-        other => return unread(rt, second, &other),
-    };
-    changes::list(rt, &old, &new)
+    match open(rt, first)? {
+        Opened::Core(old) => compare_with(rt, &old, second),
+        other => unread(rt, first, &other),
+    }
 }
 
 /// What the matched words ask for.
@@ -101,13 +120,18 @@ fn obey(rt: &HostRuntime, matches: &ArgMatches<'_>) -> anyhow::Result<ExitCode> 
     }
 }
 
-fn run(rt: &HostRuntime) -> anyhow::Result<ExitCode> {
-    let Some(words) = words(rt, "os2core")? else {
-        return Ok(ExitCode::from(MISUSED));
-    };
-    match command::program(rt.alloc())?.try_get_matches_from(words.as_slice()) {
+/// Does what the words ask for.
+fn asked(rt: &HostRuntime, words: &[String]) -> anyhow::Result<ExitCode> {
+    match command::program(rt.alloc())?.try_get_matches_from(words) {
         Ok(matches) => obey(rt, &matches),
         Err(error) => Ok(answered(rt, &error)?),
+    }
+}
+
+fn run(rt: &HostRuntime) -> anyhow::Result<ExitCode> {
+    match words(rt, "os2core")? {
+        Some(words) => asked(rt, words.as_slice()),
+        None => Ok(ExitCode::from(MISUSED)),
     }
 }
 

@@ -1,11 +1,20 @@
 // The bytes of a segment.
 
-use crate::facts::{PlaceText, SegmentText};
+use crate::facts::Told;
 use crate::printable::Letters;
-use o2_dump::{Core, NoMemory, SegmentEntry};
+use o2_base::Bytes;
+use o2_dump::{Core, NoMemory};
 use o2_tool::{Hex, MISUSED, REFUSED, Shown};
 use std::io;
 use std::process::ExitCode;
+
+/// The bytes of a segment, if the image has it.
+pub fn bytes_of(rt: &HostRuntime, core: &Core, number: u32) -> anyhow::Result<Option<Bytes>> {
+    match core.segment(rt.alloc(), number) {
+        Ok(found) => Ok(found),
+        Err(NoMemory) => anyhow::bail!("there is no memory"),
+    }
+}
 
 /// The bytes in lines of sixteen: the offset, digits and letters.
 fn list_bytes(rt: &HostRuntime, bytes: &[u8]) -> io::Result<()> {
@@ -15,15 +24,6 @@ fn list_bytes(rt: &HostRuntime, bytes: &[u8]) -> io::Result<()> {
         at = at.saturating_add(16);
     }
     Ok(())
-}
-
-/// A segment that the image has.
-fn list_entry(rt: &HostRuntime, number: u32, entry: &SegmentEntry) -> io::Result<()> {
-    println!(rt;
-        "segment {number}: {}; {}",
-        SegmentText(entry),
-        PlaceText(&entry.place)
-    )
 }
 
 /// The segment of this number, which is a word of the command.
@@ -39,11 +39,9 @@ pub fn list(rt: &HostRuntime, core: &Core, word: &str) -> anyhow::Result<ExitCod
         eprintln!(rt; "os2core: there is no segment {number}")?;
         return Ok(ExitCode::from(REFUSED));
     };
-    list_entry(rt, number, entry)?;
-    match core.segment(rt.alloc(), number) {
-        Ok(Some(bytes)) => list_bytes(rt, bytes.as_slice())?,
-        Ok(None) => {}
-        Err(NoMemory) => anyhow::bail!("there is no memory"),
+    println!(rt; "segment {number}: {}", Told::Entry(entry))?;
+    if let Some(bytes) = bytes_of(rt, core, number)? {
+        list_bytes(rt, bytes.as_slice())?;
     }
     Ok(ExitCode::SUCCESS)
 }

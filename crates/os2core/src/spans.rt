@@ -6,7 +6,7 @@ use o2_dump::{Place, SegmentEntry};
 use std::alloc::{AllocError, Global};
 
 /// A part of the memory.
-#[derive(Clone, Copy, Debug, PartialEq, Eq)]
+#[derive(Clone, Copy)]
 pub struct Span {
     /// Its first byte.
     pub from: u64,
@@ -16,13 +16,8 @@ pub struct Span {
     pub segment: Option<u32>,
 }
 
-/// The range of a segment in memory.
-#[derive(Clone, Copy, Debug, PartialEq, Eq, PartialOrd, Ord)]
-struct Range {
-    base: u64,
-    end: u64,
-    segment: u32,
-}
+/// The range of a segment in memory: its first byte, the byte behind its last one, and the segment's number.
+type Range = (u64, u64, u32);
 
 /// The ranges of segments, by their bases.
 fn ranges(alloc: Global, segments: &[SegmentEntry]) -> Result<Vec<Range>, AllocError> {
@@ -30,11 +25,8 @@ fn ranges(alloc: Global, segments: &[SegmentEntry]) -> Result<Vec<Range>, AllocE
     for (number, entry) in segments.iter().enumerate() {
         if let Place::Memory(base) = &entry.place {
             let base = u64::from(*base);
-            ranges.push(Range {
-                base,
-                end: base + (u64::from(entry.size) + 15) / 16 * 16,
-                segment: (number % 4_294_967_296) as u32,
-            })?;
+            let end = base + (u64::from(entry.size) + 15) / 16 * 16;
+            ranges.push((base, end, (number % 4_294_967_296) as u32))?;
         }
     }
     ranges.sort()?;
@@ -46,8 +38,9 @@ fn ranges(alloc: Global, segments: &[SegmentEntry]) -> Result<Vec<Range>, AllocE
 fn add(spans: &mut Vec<Span>, at: u64, range: &Range) -> Result<u64, AllocError>
     ensures { IfOk result (λ to. Adjoin 0 spans.old.items at → Adjoin 0 spans.new.items to) }
 {
-    let from = range.base.max(at);
-    let to = range.end.max(from);
+    let (base, end, segment) = *range;
+    let from = base.max(at);
+    let to = end.max(from);
     spans.push(Span {
         from: at,
         to: from,
@@ -56,7 +49,7 @@ fn add(spans: &mut Vec<Span>, at: u64, range: &Range) -> Result<u64, AllocError>
     spans.push(Span {
         from,
         to,
-        segment: Some(range.segment),
+        segment: Some(segment),
     })?;
     Ok(to)
 }
