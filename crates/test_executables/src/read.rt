@@ -1,10 +1,10 @@
 // Whether random executables are read as they were written.
-use o2_base::{Bytes, NoMemory};
+use crate::image::{is_text, module_in};
+use crate::made::{CALLED, ENTRIES, Made, Named, make, unmade};
+use o2_base::NoMemory;
 use o2_image::Module;
 use std::alloc::Global;
-use std::test::Fail;
-use test_fixtures::next;
-use test_made_executables::{CALLED, ENTRIES, Made, Named, make, unmade};
+use test_fixtures::{Wrong, next, want};
 
 fn has_segments(module: &Module, made: &Made) -> bool {
     let mut number = 0u16;
@@ -49,14 +49,6 @@ fn has_names(module: &Module, made: &Made) -> bool {
 fn has_capitals(alloc: Global, module: &Module, made: &Made) -> Result<bool, NoMemory> {
     let bytes = made.file.as_slice().to_ascii_uppercase(alloc)?;
     Ok(are_found(module, made.names.as_slice(), bytes.as_slice()))
-}
-
-// Whether there is this text.
-fn is_text(found: Option<&[u8]>, text: &[u8]) -> bool {
-    match found {
-        Some(bytes) => bytes == text,
-        None => false,
-    }
 }
 
 // The text of a name by its offset among the imported ones.
@@ -104,17 +96,6 @@ fn is_as_made(alloc: Global, module: &Module, made: &Made) -> Result<bool, NoMem
     Ok(is_so && has_capitals(alloc, module, made)?)
 }
 
-// The module in a file that passes its checks.
-fn module_in(alloc: Global, file: Vec<u8>) -> Option<Module> {
-    if file.len() > 4_194_304 {
-        return None;
-    }
-    match Module::check(alloc, Bytes::new(file)) {
-        Ok(module) => Some(module),
-        Err(_) => None,
-    }
-}
-
 // Whether a file is read as it was made.
 fn is_read(alloc: Global, made: &Made) -> Result<bool, NoMemory> {
     match module_in(alloc, made.file.clone()?) {
@@ -141,8 +122,7 @@ fn read_all(alloc: Global) -> Result<u32, NoMemory> {
     read_files(alloc, &mut made, 60)
 }
 
-#[test]
-fn random_files_are_read_as_they_were_written(rt: HostRuntime) -> Result<(), Fail> {
-    assert!(rt; read_all(rt.alloc())? == 60);
+pub fn random_files_are_read_as_they_were_written(alloc: Global) -> Result<(), Wrong> {
+    want(read_all(alloc)? == 60, 0)?;
     Ok(())
 }

@@ -3,8 +3,7 @@ ghost use Rattle.std.specs.Prelude.{◌≡◌, []};
 use o2_base::{Bytes, Fail as ReadFail, NoMemory};
 use o2_image::{Module, ModuleFault, Resolved, SharedTargets};
 use std::alloc::Global;
-use std::test::Fail;
-use test_fixtures::{bytes_in, hex};
+use test_fixtures::{Wrong, bytes_in, hex, want, want_line};
 
 // The files and their changes are texts. All numbers in them are hexadecimal, and `00*3A` is so many bytes in a row.
 
@@ -171,28 +170,19 @@ fn is_right(alloc: Global, changes: &str, expected: &str) -> Result<bool, NoMemo
     is_judged(alloc, file, expected)
 }
 
-// How many lines there are up to the first one that isn't right, and that one, or no text.
-fn judged_lines(alloc: Global) -> Result<(u32, &'static str), NoMemory> {
-    let mut count = 0u32;
+pub fn the_first_fault_is_told(alloc: Global) -> Result<(), Wrong> {
+    let mut count = 0usize;
     for line in JUDGED.lines() {
         if let Some((changes, expected)) = line.split_once(": ") {
-            if !is_right(alloc, changes, expected)? {
-                return Ok((count, line));
-            }
+            want_line(is_right(alloc, changes, expected)?, line)?;
             count = count.saturating_add(1);
         }
     }
-    Ok((count, ""))
-}
-
-#[test]
-fn the_first_fault_is_told(rt: HostRuntime) -> Result<(), Fail> {
-    assert_eq!(rt; judged_lines(rt.alloc())?, (51, ""));
-    Ok(())
+    want(count == 51, count)
 }
 
 // The module in a file that passes its checks.
-fn module_in(alloc: Global, file: Vec<u8>) -> Option<Module> {
+pub fn module_in(alloc: Global, file: Vec<u8>) -> Option<Module> {
     if file.len() > 4_194_304 {
         return None;
     }
@@ -203,7 +193,7 @@ fn module_in(alloc: Global, file: Vec<u8>) -> Option<Module> {
 }
 
 // Whether there is this text.
-fn is_text(found: Option<&[u8]>, text: &[u8]) -> bool {
+pub fn is_text(found: Option<&[u8]>, text: &[u8]) -> bool {
     match found {
         Some(bytes) => bytes == text,
         None => false,
@@ -438,28 +428,13 @@ fn has_fronts(alloc: Global) -> Result<bool, NoMemory> {
     holds(alloc, MIXED, trial)
 }
 
-// What doesn't hold, or no text.
-fn first_wrong(alloc: Global) -> Result<&'static str, NoMemory> {
-    if !holds(alloc, HELLO, Trial::Hello)? {
-        return Ok("the parts of a program");
-    }
-    if !holds(alloc, MEETS, Trial::Meets)? {
-        return Ok("segments may share records");
-    }
-    if !has_gates(alloc)? {
-        return Ok("imports become gates");
-    }
-    if !has_fronts(alloc)? {
-        return Ok("each front of an image");
-    }
-    if !are_held_once(alloc)? {
-        return Ok("targets are held once");
-    }
-    Ok("")
-}
-
-#[test]
-fn modules_and_their_images(rt: HostRuntime) -> Result<(), Fail> {
-    assert_eq!(rt; first_wrong(rt.alloc())?, "");
-    Ok(())
+pub fn modules_and_their_images(alloc: Global) -> Result<(), Wrong> {
+    want_line(holds(alloc, HELLO, Trial::Hello)?, "the parts of a program")?;
+    want_line(
+        holds(alloc, MEETS, Trial::Meets)?,
+        "segments may share records",
+    )?;
+    want_line(has_gates(alloc)?, "imports become gates")?;
+    want_line(has_fronts(alloc)?, "each front of an image")?;
+    want_line(are_held_once(alloc)?, "targets are held once")
 }

@@ -1,10 +1,9 @@
 // Random executables with a record that leads nowhere: the first such record is told.
+use crate::made::{Made, Placed, len_of, make, set_word, unmade};
 use o2_base::{Bytes, Fail as ReadFail, ModuleFault, NoMemory};
 use o2_image::Module;
 use std::alloc::Global;
-use std::test::Fail;
-use test_fixtures::next;
-use test_made_executables::{Made, Placed, len_of, make, set_word, unmade};
+use test_fixtures::{Wrong, next, want};
 
 // What is told of a record: its segment, with a place that it patches or with its number.
 #[derive(Clone, Copy, PartialEq, Eq)]
@@ -140,9 +139,8 @@ fn told_all(alloc: Global) -> Result<(u32, u32), NoMemory> {
     told_files(alloc, &mut made, 12)
 }
 
-#[test]
-fn each_record_that_leads_nowhere_is_told(rt: HostRuntime) -> Result<(), Fail> {
-    let (all, right) = told_all(rt.alloc())?;
-    assert!(rt; all > 100 && right == all, "{right} of {all}");
+pub fn each_record_that_leads_nowhere_is_told(alloc: Global) -> Result<(), Wrong> {
+    let (all, right) = told_all(alloc)?;
+    want(all > 100 && right == all, 0)?;
     Ok(())
 }
