@@ -1,5 +1,5 @@
 -- The setting of a program that is run alone.
-use Rattle.std.specs.Prelude.{ℕ, List, [], ◌∷◌}
+use Rattle.std.specs.Prelude.{ℕ, List, [], ◌∷◌, None}
 use Rattle.o2_conf.specs.declared.conf.Conf.{Conf}
 use Rattle.o2_conf.specs.declared.process.Process.{Process}
 use Rattle.o2_conf.specs.Ordinals.{default_ordinals}
@@ -21,4 +21,5 @@ exe_setting file name = record {
   process = bare_process name ∷ [];
   ordinals = default_ordinals;
   script = [];
+  shim = None;
 }

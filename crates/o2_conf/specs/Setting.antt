@@ -4,11 +4,11 @@ use Rattle.std.specs.List.{list_all}
 use Rattle.toml.specs.Data.{Data, Members}
 use Rattle.o2_base.specs.declared.faults.Key.TheVariants as key
 use Rattle.o2_base.specs.declared.faults.MachineFault.{MachineFault}
-use Rattle.o2_base.specs.declared.faults.MachineFault.TheVariants.{Missing, Limit}
+use Rattle.o2_base.specs.declared.faults.MachineFault.TheVariants.{Missing, BadValue, Limit}
 use Rattle.o2_conf.specs.declared.conf.Conf.{Conf}
 use Rattle.o2_conf.specs.declared.numbers.Numbers.{Numbers}
 use Rattle.o2_conf.specs.Steps.{◌>>=◌, some_or, within}
-use Rattle.o2_conf.specs.Values.{document_of, value_at, is_from, integer_of, integer_at, texts_of}
+use Rattle.o2_conf.specs.Values.{document_of, value_at, is_from, integer_of, integer_at, text_of, texts_of}
 use Rattle.o2_conf.specs.Processes.{processes_at}
 use Rattle.o2_conf.specs.Ordinals.{ordinals_or}
 use Rattle.o2_conf.specs.Script.{script_or}
@@ -44,6 +44,13 @@ modules_at ms = do
   names ← texts_of key.Modules d
   within (is_from 1 64 (length names) && are_short names) names (Limit key.Modules)
 
+-- the library that answers for the services' module where the services don't; none where the key is absent
+abbrev pub shim_or : Option Data → Result (Option (List ℕ)) MachineFault
+shim_or None = Ok None
+shim_or (Some d) = do
+  text ← some_or (text_of d) (BadValue key.Shim)
+  within (is_from 1 255 (length text)) (Some text) (Limit key.Shim)
+
 -- the setting, or the first fault; a file has at most 1,048,576 bytes
 unfoldable pub setting : List ℕ → Result Conf MachineFault
 setting file = do
@@ -54,6 +61,7 @@ setting file = do
   process ← processes_at ms
   ordinals ← ordinals_or (value_at ms key.Ordinals)
   script ← script_or (value_at ms key.Script)
+  shim ← shim_or (value_at ms key.Shim)
   Ok (record {
     memory = n.memory;
     swap = n.swap;
@@ -65,4 +73,5 @@ setting file = do
     process = process;
     ordinals = ordinals;
     script = script;
+    shim = shim;
   })

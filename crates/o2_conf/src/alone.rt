@@ -42,7 +42,7 @@ fn one_process(alloc: Global, name: &Bytes) -> Result<Processes, NoMemory>
 impl Conf {
     /// The setting of a program that is run alone, the module `name` in `file`: memory 1,048,576, 2,048 blocks of swap, 1,024
     /// segments, budget 1,000,000, quantum 1,000 and avail 524,288; one process without arguments and environment strings;
-    /// the ordinals of the table of services, and no script.
+    /// the ordinals of the table of services, no script and no shim.
     pub fn exe(alloc: Global, file: &Bytes, name: &Bytes) -> Result<Conf, NoMemory>
         ensures exact { IfOk result (λ c. c ≡ exe_setting file.now name.now) }
         ensures within { length name.now ≤ 255 → IfOk result IsWithinLimits }
@@ -61,6 +61,7 @@ impl Conf {
             process,
             ordinals,
             script: Script::new(Vec::new(alloc)),
+            shim: None,
         })
     }
 }

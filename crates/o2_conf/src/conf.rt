@@ -12,6 +12,7 @@ use crate::numbers::{Numbers, read_numbers};
 use crate::ordinals::ordinals;
 use crate::process::processes;
 use crate::script::script;
+use crate::shim::shim;
 use crate::table::value;
 use o2_base::{Bytes, Fail, Key, MachineFault};
 use std::alloc::Global;
@@ -40,6 +41,8 @@ pub struct Conf {
     pub ordinals: Ordinals,
     /// The script, at most 100,000 words.
     pub script: Script,
+    /// The name of the library, 1 to 255 bytes, that answers for the services' module where the services don't.
+    pub shim: Option<Bytes>,
 }
 
 /// The integers at the top of a machine file.
@@ -111,6 +114,7 @@ impl Conf {
         let process = Processes::new(processes(alloc, &table)?);
         let ordinals = Ordinals::new(ordinals(alloc, &table)?);
         let script = Script::new(script(alloc, &table)?);
+        let shim = shim(alloc, &table)?;
         Ok(Conf {
             memory: numbers.memory,
             swap: numbers.swap,
@@ -122,6 +126,7 @@ impl Conf {
             process,
             ordinals,
             script,
+            shim,
         })
     }
 }

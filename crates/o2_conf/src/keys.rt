@@ -23,5 +23,6 @@ pub fn name(key: Key) -> &'static str
         Key::ProcessEnvironment => "environment",
         Key::Ordinals => "ordinals",
         Key::Script => "script",
+        Key::Shim => "shim",
     }
 }

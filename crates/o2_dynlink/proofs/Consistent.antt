@@ -24,36 +24,36 @@ use Rattle.o2_dynlink.specs.Selectors.{base_at, bases_of, index_in, index_of}
 use Rattle.o2_dynlink.proofs.Gathered.{pairs, pairs_shape}
 use Rattle.o2_dynlink.proofs.Indexes.{nth_some}
 
-module _ (all : List Parts) (bases : List ℕ) (ordinals : List (ℕ × ℕ)) where
-  module_shape : (base : ℕ) (m : Parts) (t : Targets) → module_targets all bases ordinals base m ≡ Ok t → same_shape t m.relocs ≡ true
+module _ (all : List Parts) (bases : List ℕ) (shim : Option ℕ) (ordinals : List (ℕ × ℕ)) where
+  module_shape : (base : ℕ) (m : Parts) (t : Targets) → module_targets all bases shim ordinals base m ≡ Ok t → same_shape t m.relocs ≡ true
   unfolding module_targets
   module_shape base m t h = go (none_lost (lost_reference all m)) h
     where
-      go : (r : Result (Unit {0}) ModuleFault) → (r >>= (λ _. targets_of all bases ordinals base m)) ≡ Ok t → same_shape t m.relocs ≡ true
-      go (Ok u) k = pairs_shape (target_in all bases ordinals base m) m.relocs t (pairs (each (target_in all bases ordinals base m)) m.relocs t k)
+      go : (r : Result (Unit {0}) ModuleFault) → (r >>= (λ _. targets_of all bases shim ordinals base m)) ≡ Ok t → same_shape t m.relocs ≡ true
+      go (Ok u) k = pairs_shape (target_in all bases shim ordinals base m) m.relocs t (pairs (each (target_in all bases shim ordinals base m)) m.relocs t k)
       go (Err e) k = absurd cc
 
-  step_shape : (m : Parts) (found next : List Targets) → module_step all bases ordinals m found ≡ Ok next
+  step_shape : (m : Parts) (found next : List Targets) → module_step all bases shim ordinals m found ≡ Ok next
       → (t : Targets) × (next ≡ found ++ t ∷ []) × (same_shape t m.relocs ≡ true)
   unfolding module_step
-  step_shape m found next h = go (module_targets all bases ordinals (base_at bases (length found + 1)) m) refl h
+  step_shape m found next h = go (module_targets all bases shim ordinals (base_at bases (length found + 1)) m) refl h
     where
-      go : (r : Result Targets ModuleFault) → module_targets all bases ordinals (base_at bases (length found + 1)) m ≡ r
+      go : (r : Result Targets ModuleFault) → module_targets all bases shim ordinals (base_at bases (length found + 1)) m ≡ r
           → (at_place (length found + 1) r >>= (λ ts. Ok (found ++ ts ∷ []))) ≡ Ok next → (t : Targets) × (next ≡ found ++ t ∷ []) × (same_shape t m.relocs ≡ true)
       go (Ok t) e k = (t, sym cc, module_shape (base_at bases (length found + 1)) m t e)
       go (Err f) e k = absurd cc
 
-  all_shapes : (ms : List Parts) (found targets : List Targets) → over (module_step all bases ordinals) ms found ≡ Ok targets
+  all_shapes : (ms : List Parts) (found targets : List Targets) → over (module_step all bases shim ordinals) ms found ≡ Ok targets
       → (ts : List Targets) × (targets ≡ found ++ ts) × Fitting ms ts
   unfolding over
   all_shapes [] found targets h =
       let is : found ≡ targets = cc in
       ([], sym is ∙ sym (append-nil found), tt)
-  all_shapes (m ∷ ms) found targets h = go (module_step all bases ordinals m found) refl (all_shapes ms) h
+  all_shapes (m ∷ ms) found targets h = go (module_step all bases shim ordinals m found) refl (all_shapes ms) h
     where
-      go : (r : Result (List Targets) LinkFault) → module_step all bases ordinals m found ≡ r
-          → ((before : List Targets) (whole : List Targets) → over (module_step all bases ordinals) ms before ≡ Ok whole → (ts : List Targets) × (whole ≡ before ++ ts) × Fitting ms ts)
-          → (r >>= over (module_step all bases ordinals) ms) ≡ Ok targets
+      go : (r : Result (List Targets) LinkFault) → module_step all bases shim ordinals m found ≡ r
+          → ((before : List Targets) (whole : List Targets) → over (module_step all bases shim ordinals) ms before ≡ Ok whole → (ts : List Targets) × (whole ≡ before ++ ts) × Fitting ms ts)
+          → (r >>= over (module_step all bases shim ordinals) ms) ≡ Ok targets
           → (ts : List Targets) × (targets ≡ found ++ ts) × Fitting (m ∷ ms) ts
       go (Ok next) e more k =
           let s = step_shape m found next e in
@@ -61,7 +61,7 @@ module _ (all : List Parts) (bases : List ℕ) (ordinals : List (ℕ × ℕ)) wh
           (s.0 ∷ rest.0, rest.1 ∙ ap (λ (ts : List Targets). ts ++ rest.0) s.1 ∙ append_assoc found (s.0 ∷ []) rest.0, (s.2, rest.2))
       go (Err f) e more k = absurd cc
 
-  pub fitting : (ms : List Parts) (targets : List Targets) → over (module_step all bases ordinals) ms [] ≡ Ok targets → Fitting ms targets
+  pub fitting : (ms : List Parts) (targets : List Targets) → over (module_step all bases shim ordinals) ms [] ≡ Ok targets → Fitting ms targets
   fitting ms targets h = let g = all_shapes ms [] targets h in subst (Fitting ms) (sym g.1) g.2
 
 pub fitting_belong : (ms : List Parts) (ts : List Targets) → Fitting ms ts → AllBelong (zip ms ts)
@@ -111,14 +111,14 @@ all_marked P place (true ∷ marks) h =
     All-cons P place (marked (place + 1) marks) (h place (omega arith) (omega arith)) (all_marked P (place + 1) marks (λ n low high. h n (omega arith) (omega arith)))
 all_marked P place (false ∷ marks) h = all_marked P (place + 1) marks (λ n low high. h n (omega arith) (omega arith))
 
-libraries_exist : (ms : List Parts) (place : ℕ) → All (Exists ms) (libraries_of ms place)
-libraries_exist ms place = go (nth ms place)
+libraries_exist : (shim : Option (List ℕ)) (ms : List Parts) (place : ℕ) → All (Exists ms) (libraries_of shim ms place)
+libraries_exist shim ms place = go (nth ms place)
   where
-    go : (o : Option Parts) → All (Exists ms) (reached_by ms o)
+    go : (o : Option Parts) → All (Exists ms) (reached_by shim ms o)
     go None = All-nil (Exists ms)
     go (Some m) =
-        let len : length (map (reaches ms (length ms) m) ms) ≡ length ms = length-map ms (reaches ms (length ms) m) in
-        all_marked (Exists ms) 1 (map (reaches ms (length ms) m) ms) (λ n low high. (low, omega (arith, len, high)))
+        let len : length (map (reaches shim ms (length ms) m) ms) ≡ length ms = length-map ms (reaches shim ms (length ms) m) in
+        all_marked (Exists ms) 1 (map (reaches shim ms (length ms) m) ms) (λ n low high. (low, omega (arith, len, high)))
 
 pub consistent : (ms : List Parts) (c : Conf) (targets : List Targets) (programs : List ℕ) → length ms ≤ 64 → Fitting ms targets → AllFit ms (bases_of ms)
     → length programs ≡ length c.process → All (Exists ms) programs → IsConsistent (outcome ms c targets programs)
@@ -130,15 +130,15 @@ consistent ms c targets programs few f fit count exist =
       few = omega (arith, len, few);
       within = subst (λ (ns : List Parts). (place seg index : ℕ) → index_of ns place seg ≡ Some index → index ≤ 8191) (sym same) (all_within ms fit);
       environments = length-map c.process environment_bytes ∙ sym count;
-      lists = length-map programs (libraries_of ms);
+      lists = length-map programs (libraries_of c.shim ms);
       programs = λ k d lt. moved _ (exist k d lt);
-      libraries = All-map (All (Exists (zip ms targets))) (libraries_of ms) programs (λ k d lt. λ j e lt'. moved _ (libraries_exist ms (get_or programs k d) j e lt'));
+      libraries = All-map (All (Exists (zip ms targets))) (libraries_of c.shim ms) programs (λ k d lt. λ j e lt'. moved _ (libraries_exist c.shim ms (get_or programs k d) j e lt'));
     }
 
 -- the outcome by its parts
 pub outcome_is : (ms : List Parts) (c : Conf) (targets : List Targets) (programs : List ℕ) (images : ImageList) (modules : List Resolution) (environments libraries : List (List ℕ))
     → images ≡ record { modules = modules; environments = environments } → modules ≡ zip ms targets → environments ≡ map environment_bytes c.process
-    → libraries ≡ map (libraries_of ms) programs
+    → libraries ≡ map (libraries_of c.shim ms) programs
     → record { images = images; programs = programs; libraries = libraries } ≡ outcome ms c targets programs
 outcome_is ms c targets programs images modules environments libraries i m e l = rw (i, m, e, l) refl
 

@@ -41,27 +41,27 @@ services_is ms name h = go (is_doscalls name) refl
 not_first : (ms : List Parts) (name : List ℕ) (place : ℕ) → lead_of ms name ≡ Library place → 1 ≤ place
 not_first ms name place e = let there = library_exists ms name place (sym e) in there.0
 
-module _ (ms : List Parts) (bases : List ℕ) where
+module _ (ms : List Parts) (bases : List ℕ) (shim : Option ℕ) where
   name_is : (name text : List ℕ) (place : ℕ) → Library place ≡ lead_of ms name
-      → import_name ms bases name text ≡ exported_as (base_for bases (Some place)) name text (found_at ms (Some place))
+      → import_name ms bases shim name text ≡ exported_as (base_for bases (Some place)) name text (found_at ms (Some place))
   name_is name text place lead =
       let is = library_is ms name place lead in
       rw (is.0, is.1) refl
 
   -- where a name of a library leads doesn't hang on how the library is written, and likewise for the services
   of_library : (a b : List ℕ) (text : Option (List ℕ)) (place : ℕ) (t : Target) → Library place ≡ lead_of ms a → Library place ≡ lead_of ms b
-      → import_text ms bases a text ≡ Ok t → import_text ms bases b text ≡ Ok t
+      → import_text ms bases shim a text ≡ Ok t → import_text ms bases shim b text ≡ Ok t
   of_library a b None place t la lb h = h
   of_library a b (Some text) place t la lb h =
       name_is b text place lb ∙ exported_same (base_for bases (Some place)) a b text (found_at ms (Some place)) t (sym (name_is a text place la) ∙ h)
 
   of_services : (a b : List ℕ) (text : Option (List ℕ)) (t : Target) → is_doscalls a ≡ true → is_doscalls b ≡ true
-      → import_text ms bases a text ≡ Ok t → import_text ms bases b text ≡ Ok t
+      → import_text ms bases shim a text ≡ Ok t → import_text ms bases shim b text ≡ Ok t
   of_services a b None t ia ib h = h
   of_services a b (Some text) t ia ib h = rw ib (rw ia at h)
 
   text_same : (a b : List ℕ) (text : Option (List ℕ)) (block : ℕ) (t : Target) → block_of (lead_of ms a) ≡ Some block → block_of (lead_of ms b) ≡ Some block
-      → import_text ms bases a text ≡ Ok t → import_text ms bases b text ≡ Ok t
+      → import_text ms bases shim a text ≡ Ok t → import_text ms bases shim b text ≡ Ok t
   text_same a b text block t ba bb h = go (lead_of ms a) (lead_of ms b) refl refl
     where
       at : (place : ℕ) (name : List ℕ) → lead_of ms name ≡ Library place → block_of (lead_of ms name) ≡ Some block → place ≡ block
@@ -74,7 +74,7 @@ module _ (ms : List Parts) (bases : List ℕ) where
           let low = not_first ms d q ed in
           omega (arith, zero_is, q_is, low)
 
-      go : (la lb : Lead) → lead_of ms a ≡ la → lead_of ms b ≡ lb → import_text ms bases b text ≡ Ok t
+      go : (la lb : Lead) → lead_of ms a ≡ la → lead_of ms b ≡ lb → import_text ms bases shim b text ≡ Ok t
       go Nowhere lb ea eb = absurd (let bad = rw ea at ba in cc)
       go Services Nowhere ea eb = absurd (let bad = rw eb at bb in cc)
       go (Library p) Nowhere ea eb = absurd (let bad = rw eb at bb in cc)
@@ -88,14 +88,14 @@ module _ (ms : List Parts) (bases : List ℕ) where
 
   -- what the memo has of a name that a record imports is where it leads
   pub known_named : (ordinals : List (ℕ × ℕ)) (m : Parts) (memo : List (Option Target)) (r : Reloc) (lead : Lead) (block : ℕ) (found : Option Target)
-      → IsMemo ms bases m memo → r.second < 65536 → target_kind r ≡ 2 → nth (map (lead_of ms) m.references) r.first ≡ Some lead
+      → IsMemo ms bases shim m memo → r.second < 65536 → target_kind r ≡ 2 → nth (map (lead_of ms) m.references) r.first ≡ Some lead
       → block_of lead ≡ Some block → found ≡ get_or memo (memo_at block r.second) None
-      → IfSome found (λ t. imported ms bases ordinals m r (nth m.references r.first) ≡ Ok t)
+      → IfSome found (λ t. imported ms bases shim ordinals m r (nth m.references r.first) ≡ Ok t)
   known_named ordinals m memo r lead block found is low kind leads of held =
       go (nth m.references r.first) (sym (nth_mapped (lead_of ms) m.references r.first) ∙ leads) found held
     where
       go : (name : Option (List ℕ)) → option_map (lead_of ms) name ≡ Some lead → (o : Option Target) → o ≡ get_or memo (memo_at block r.second) None
-          → IfSome o (λ t. imported ms bases ordinals m r name ≡ Ok t)
+          → IfSome o (λ t. imported ms bases shim ordinals m r name ≡ Ok t)
       go None h o e = absurd cc
       go (Some name) h None e = tt
       go (Some name) h (Some t) e =
@@ -103,15 +103,15 @@ module _ (ms : List Parts) (bases : List ℕ) where
           let other : (target_kind r == 1) ≡ false = rw kind refl in
           rw other (is block r.second t name low (sym e) (rw to of))
 
-  pub noted : (m : Parts) (memo after : List (Option Target)) (block at : ℕ) (t : Target) (name : List ℕ) → IsMemo ms bases m memo → at < 65536
-      → after ≡ set memo (memo_at block at) (Some t) → block_of (lead_of ms name) ≡ Some block → import_text ms bases name (imported_name m at) ≡ Ok t
-      → IsMemo ms bases m after
+  pub noted : (m : Parts) (memo after : List (Option Target)) (block at : ℕ) (t : Target) (name : List ℕ) → IsMemo ms bases shim m memo → at < 65536
+      → after ≡ set memo (memo_at block at) (Some t) → block_of (lead_of ms name) ≡ Some block → import_text ms bases shim name (imported_name m at) ≡ Ok t
+      → IsMemo ms bases shim m after
   noted m memo after block at t name is low changed lead leads block2 at2 t2 name2 low2 held lead2 = go (memo_at block2 at2 == memo_at block at) refl
     where
       now : get_or (set memo (memo_at block at) (Some t)) (memo_at block2 at2) None ≡ Some t2
       now = ap (λ (xs : List (Option Target)). get_or xs (memo_at block2 at2) None) (sym changed) ∙ held
 
-      go : (b : Bool) → (memo_at block2 at2 == memo_at block at) ≡ b → import_text ms bases name2 (imported_name m at2) ≡ Ok t2
+      go : (b : Bool) → (memo_at block2 at2 == memo_at block at) ≡ b → import_text ms bases shim name2 (imported_name m at2) ≡ Ok t2
       go false e =
           let other : memo_at block2 at2 ≢ memo_at block at = λ q. (let yes : (memo_at block2 at2 == memo_at block at) ≡ true = eq-eqb _ _ q in let bad = sym e ∙ yes in cc) in
           is block2 at2 t2 name2 low2 (sym (get_or-set_other memo (memo_at block at) (memo_at block2 at2) (Some t) None other) ∙ now) lead2
@@ -121,7 +121,7 @@ module _ (ms : List Parts) (bases : List ℕ) where
           let ats : at2 ≡ at = omega arith in
           here blocks ats
         where
-          here : block2 ≡ block → at2 ≡ at → import_text ms bases name2 (imported_name m at2) ≡ Ok t2
+          here : block2 ≡ block → at2 ≡ at → import_text ms bases shim name2 (imported_name m at2) ≡ Ok t2
           here p q = elim (cases_lt (memo_at block at) (length memo)) [
             | inl lt ↦
                 let at_is : get_or (set memo (memo_at block at) (Some t)) (memo_at block at) None ≡ Some t2 = rw (p, q) at now in
@@ -135,7 +135,7 @@ module _ (ms : List Parts) (bases : List ℕ) where
                 absurd (let bad = sym none ∙ at_is in cc))
           ]
 
-  pub empty_memo : (m : Parts) (memo : List (Option Target)) → ((i : ℕ) → get_or memo i None ≡ None) → IsMemo ms bases m memo
+  pub empty_memo : (m : Parts) (memo : List (Option Target)) → ((i : ℕ) → get_or memo i None ≡ None) → IsMemo ms bases shim m memo
   empty_memo m memo none place at t name low held lead = absurd (let bad = sym (none (memo_at place at)) ∙ held in cc)
 
 -- as long as nothing is noted nothing is known

@@ -11,3 +11,4 @@ pub mod Sharing
 pub mod Behind
 pub mod Ordered
 pub mod Passing
+pub mod Shims

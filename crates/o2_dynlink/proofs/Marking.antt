@@ -1,5 +1,5 @@
 -- The marks of reached libraries, round by round.
-use Rattle.std.proofs.Common.{◌≡◌, ℕ, zero, suc, ◌+◌, ◌<◌, ◌≤◌, ◌&&◌, ◌||◌, Bool, true, false, List, [], ◌∷◌, ◌++◌, drop, get_or, length, map, refl, sym, ap, ◌∙◌, add-one, arith, append_assoc, append-nil}
+use Rattle.std.proofs.Common.{◌≡◌, ℕ, zero, suc, ◌+◌, ◌<◌, ◌≤◌, ◌&&◌, ◌||◌, Bool, true, false, List, [], ◌∷◌, ◌++◌, Option, drop, get_or, length, map, refl, sym, ap, ◌∙◌, add-one, arith, append_assoc, append-nil}
 use Rattle.std.specs.List.{list_any}
 use Rattle.std.proofs.lemmas.List.{drop_all, length-map}
 use Rattle.std.proofs.lemmas.Option.{get_or_from_slice_get}
@@ -20,12 +20,12 @@ next_maps p q r ms [] = refl
 next_maps p q r ms (l ∷ ls) = rw (both_maps r (λ m. q m l) ms, next_maps p q r ms ls) refl
 
 -- one round more
-pub next_round : (ms : List Parts) (n : ℕ) (m : Parts) (first marks next : List Bool) (columns : List (List Bool))
-    → first ≡ map (refers m) ms → columns ≡ map (λ l. map (λ k. refers k l) ms) ms → marks ≡ map (reaches ms n m) ms → next ≡ next_marks first columns marks
-    → next ≡ map (reaches ms (n + 1) m) ms
-next_round ms n m first marks next columns f c s h =
+pub next_round : (shim : Option (List ℕ)) (ms : List Parts) (n : ℕ) (m : Parts) (first marks next : List Bool) (columns : List (List Bool))
+    → first ≡ map (refers shim m) ms → columns ≡ map (λ l. map (λ k. refers shim k l) ms) ms → marks ≡ map (reaches shim ms n m) ms → next ≡ next_marks first columns marks
+    → next ≡ map (reaches shim ms (n + 1) m) ms
+next_round shim ms n m first marks next columns f c s h =
     let one : n + 1 ≡ suc n = add-one n in
-    let all : next_marks first columns marks ≡ map (reaches ms (suc n) m) ms = rw (f, c, s) (next_maps (refers m) refers (reaches ms n m) ms ms) in
+    let all : next_marks first columns marks ≡ map (reaches shim ms (suc n) m) ms = rw (f, c, s) (next_maps (refers shim m) (refers shim) (reaches shim ms n m) ms ms) in
     h ∙ (rw one all)
 
 both_nil : (a : List Bool) → both_any a [] ≡ false

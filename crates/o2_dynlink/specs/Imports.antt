@@ -1,4 +1,5 @@
--- Where the records of a module lead: within it, to a service, or to what a library exports.
+-- Where the records of a module lead: within it, to a service, or to what a library exports. The library at the place `shim`
+-- answers for the services' module where the services don't.
 use Rattle.std.specs.Prelude.{ℕ, ◌+◌, ◌%◌, ◌==◌, List, [], ◌∷◌, ◌++◌, Option, Some, None, find, option_and_then, option_map, Result, Ok, Err, if◌then◌else◌}
 use Rattle.std.specs.List.{position_from}
 use Rattle.std.specs.Option.{option_map_or}
@@ -35,10 +36,15 @@ passed (Err e) = Err e
 abbrev pub on_list : {X Y F : Type 0} → (X → Result Y F) → List (List X) → ℕ → Result (List Y) F
 on_list f xss n = each f (nth_list xss n)
 
--- a service has a gate where the machine has it
-abbrev pub gate_or : Option ℕ → ModuleFault → Result Target ModuleFault
-gate_or None fault = Err fault
-gate_or (Some s) fault = if is_built s then Ok (gate_of s, 0) else Err fault
+-- the gate of a service that the machine has
+abbrev pub gate_of_built : Option ℕ → Option Target
+gate_of_built None = None
+gate_of_built (Some s) = if is_built s then Some (gate_of s, 0) else None
+
+-- that gate, or what there is in its place
+abbrev pub gate_or : Option Target → Result Target ModuleFault → Result Target ModuleFault
+gate_or None other = other
+gate_or (Some gate) other = Ok gate
 
 -- the service with an ordinal of the list, and the one of a name
 abbrev pub service_with : List (ℕ × ℕ) → ℕ → Option ℕ
@@ -68,15 +74,29 @@ found_at ms place = option_and_then (nth ms) place
 abbrev pub base_for : List ℕ → Option ℕ → ℕ
 base_for bases place = option_map_or (base_at bases) place 0
 
--- ordinal n, or the name `text`, of the module `name`
-abbrev pub import_ordinal : List Parts → List ℕ → List (ℕ × ℕ) → List ℕ → ℕ → Result Target ModuleFault
-import_ordinal ms bases ordinals name n =
-    if is_doscalls name then gate_or (service_with ordinals n) (NoOrdinal doscalls n)
+-- an entry of a listed module by its ordinal, and by its name
+abbrev pub entry_with : ℕ → Option Parts → Option (ℕ × ℕ)
+entry_with n m = option_and_then (λ (m : Parts). target_of n m.entries) m
+
+abbrev pub entry_called : List ℕ → Option Parts → Option (ℕ × ℕ)
+entry_called text m = option_and_then (λ (m : Parts). option_and_then (λ n. target_of n m.entries) (ordinal_of text m.names.names)) m
+
+-- what the services' module has beside the services: the entries of the library at the place `shim`, by ordinal and by name
+abbrev pub shim_ordinal : List Parts → List ℕ → Option ℕ → ℕ → Result Target ModuleFault
+shim_ordinal ms bases shim n = entry_or (base_for bases shim) (entry_with n (found_at ms shim)) (NoOrdinal doscalls n)
+
+abbrev pub shim_name : List Parts → List ℕ → Option ℕ → List ℕ → Result Target ModuleFault
+shim_name ms bases shim text = entry_or (base_for bases shim) (entry_called text (found_at ms shim)) (NoName doscalls text)
+
+-- ordinal n, or the name `text`, of the module `name`; of the services' module a built service comes first
+abbrev pub import_ordinal : List Parts → List ℕ → Option ℕ → List (ℕ × ℕ) → List ℕ → ℕ → Result Target ModuleFault
+import_ordinal ms bases shim ordinals name n =
+    if is_doscalls name then gate_or (gate_of_built (service_with ordinals n)) (shim_ordinal ms bases shim n)
     else exported (base_for bases (library_named ms name)) name n (found_at ms (library_named ms name))
 
-abbrev pub import_name : List Parts → List ℕ → List ℕ → List ℕ → Result Target ModuleFault
-import_name ms bases name text =
-    if is_doscalls name then gate_or (service_called text) (NoName doscalls text)
+abbrev pub import_name : List Parts → List ℕ → Option ℕ → List ℕ → List ℕ → Result Target ModuleFault
+import_name ms bases shim name text =
+    if is_doscalls name then gate_or (gate_of_built (service_called text)) (shim_name ms bases shim text)
     else exported_as (base_for bases (library_named ms name)) name text (found_at ms (library_named ms name))
 
 -- a segment of the module itself, or an entry of it; a checked module has it
@@ -86,23 +106,23 @@ internal base m r =
     else point base (r.first % 256, r.second)
 
 -- the imported name at an offset; a checked module has it
-abbrev pub import_text : List Parts → List ℕ → List ℕ → Option (List ℕ) → Result Target ModuleFault
-import_text ms bases name None = Ok (0, 0)
-import_text ms bases name (Some text) = import_name ms bases name text
+abbrev pub import_text : List Parts → List ℕ → Option ℕ → List ℕ → Option (List ℕ) → Result Target ModuleFault
+import_text ms bases shim name None = Ok (0, 0)
+import_text ms bases shim name (Some text) = import_name ms bases shim name text
 
 -- an import of a reference; a checked module has it
-abbrev pub imported : List Parts → List ℕ → List (ℕ × ℕ) → Parts → Reloc → Option (List ℕ) → Result Target ModuleFault
-imported ms bases ordinals m r None = Ok (0, 0)
-imported ms bases ordinals m r (Some name) =
-    if target_kind r == 1 then import_ordinal ms bases ordinals name r.second
-    else import_text ms bases name (imported_name m r.second)
+abbrev pub imported : List Parts → List ℕ → Option ℕ → List (ℕ × ℕ) → Parts → Reloc → Option (List ℕ) → Result Target ModuleFault
+imported ms bases shim ordinals m r None = Ok (0, 0)
+imported ms bases shim ordinals m r (Some name) =
+    if target_kind r == 1 then import_ordinal ms bases shim ordinals name r.second
+    else import_text ms bases shim name (imported_name m r.second)
 
 -- where a record leads; a system fixup leads nowhere
-abbrev pub target_in : List Parts → List ℕ → List (ℕ × ℕ) → ℕ → Parts → Reloc → Result Target ModuleFault
-target_in ms bases ordinals base m r =
+abbrev pub target_in : List Parts → List ℕ → Option ℕ → List (ℕ × ℕ) → ℕ → Parts → Reloc → Result Target ModuleFault
+target_in ms bases shim ordinals base m r =
     if target_kind r == 0 then Ok (internal base m r)
-    else (if target_kind r == 3 then Ok (0, 0) else imported ms bases ordinals m r (nth m.references r.first))
+    else (if target_kind r == 3 then Ok (0, 0) else imported ms bases shim ordinals m r (nth m.references r.first))
 
 -- where all records of a module lead, by segment and record
-abbrev pub targets_of : List Parts → List ℕ → List (ℕ × ℕ) → ℕ → Parts → Result (List (List Target)) ModuleFault
-targets_of ms bases ordinals base m = each (each (target_in ms bases ordinals base m)) m.relocs
+abbrev pub targets_of : List Parts → List ℕ → Option ℕ → List (ℕ × ℕ) → ℕ → Parts → Result (List (List Target)) ModuleFault
+targets_of ms bases shim ordinals base m = each (each (target_in ms bases shim ordinals base m)) m.relocs

@@ -2,7 +2,7 @@
 use Rattle.std.specs.Prelude.{◌≡◌, ℕ, ◌+◌, All, List, [], ◌∷◌, ◌++◌, Option, Some, None, length, map, nat_le, Result, Ok, Err, if◌then◌else◌}
 use Rattle.std.specs.List.{zip}
 use Rattle.o2_base.specs.declared.faults.ModuleFault.{ModuleFault}
-use Rattle.o2_base.specs.declared.faults.ModuleFault.TheVariants.{NoModule, NoSelector, TwoModules}
+use Rattle.o2_base.specs.declared.faults.ModuleFault.TheVariants.{NoModule, NoSelector, NoShim, TwoModules}
 use Rattle.o2_conf.specs.declared.conf.Conf.{Conf}
 use Rattle.o2_conf.specs.declared.process.Process.{Process}
 use Rattle.o2_conf.specs.Environments.{environment_bytes}
@@ -13,7 +13,7 @@ use Rattle.o2_image.specs.Parts.{Parts}
 use Rattle.o2_image.specs.Whole.{IsRunnable}
 use Rattle.o2_dynlink.specs.declared.fault.LinkFault.{LinkFault}
 use Rattle.o2_dynlink.specs.Imports.{each, targets_of}
-use Rattle.o2_dynlink.specs.Listed.{is_taken, lost_reference, module_named}
+use Rattle.o2_dynlink.specs.Listed.{is_taken, library_named, lost_reference, module_named}
 use Rattle.o2_dynlink.specs.Outcome.{LinkedParts}
 use Rattle.o2_dynlink.specs.Reached.{libraries_of}
 use Rattle.o2_dynlink.specs.Selectors.{base_at, bases_of}
@@ -34,16 +34,25 @@ abbrev pub none_lost : Option (List ℕ) → Result (Unit {0}) ModuleFault
 none_lost None = Ok tt
 none_lost (Some name) = Err (NoModule name)
 
+-- the place of the library that answers for the services' module, by the name that the machine file gives
+abbrev pub shim_or : List ℕ → Option ℕ → Result (Option ℕ) LinkFault
+shim_or name None = Err (refusal 0 (NoShim name))
+shim_or name (Some place) = Ok (Some place)
+
+abbrev pub shim_of : List Parts → Option (List ℕ) → Result (Option ℕ) LinkFault
+shim_of ms None = Ok None
+shim_of ms (Some name) = shim_or name (library_named ms name)
+
 -- each reference of a module is to a listed library or to the services' module, and each import is defined
-unfoldable pub module_targets : List Parts → List ℕ → List (ℕ × ℕ) → ℕ → Parts → Result (List (List Target)) ModuleFault
-module_targets ms bases ordinals base m = do
+unfoldable pub module_targets : List Parts → List ℕ → Option ℕ → List (ℕ × ℕ) → ℕ → Parts → Result (List (List Target)) ModuleFault
+module_targets ms bases shim ordinals base m = do
   _ ← none_lost (lost_reference ms m)
-  targets_of ms bases ordinals base m
+  targets_of ms bases shim ordinals base m
 
 -- the targets of one module more
-unfoldable pub module_step : List Parts → List ℕ → List (ℕ × ℕ) → Parts → List (List (List Target)) → Result (List (List (List Target))) LinkFault
-module_step ms bases ordinals m found = do
-  targets ← at_place (length found + 1) (module_targets ms bases ordinals (base_at bases (length found + 1)) m)
+unfoldable pub module_step : List Parts → List ℕ → Option ℕ → List (ℕ × ℕ) → Parts → List (List (List Target)) → Result (List (List (List Target))) LinkFault
+module_step ms bases shim ordinals m found = do
+  targets ← at_place (length found + 1) (module_targets ms bases shim ordinals (base_at bases (length found + 1)) m)
   Ok (found ++ targets ∷ [])
 
 abbrev pub place_or : List ℕ → Option ℕ → Result ℕ LinkFault
@@ -64,15 +73,16 @@ abbrev pub outcome : List Parts → Conf → List (List (List Target)) → List 
 outcome ms c targets programs = record {
   images = record { modules = zip ms targets; environments = map environment_bytes c.process };
   programs = programs;
-  libraries = map (libraries_of ms) programs;
+  libraries = map (libraries_of c.shim ms) programs;
 }
 
--- What linking gives, or the first refusal: of a name, of a reference or an import, of a process's module, of a library's
--- segments.
+-- What linking gives, or the first refusal: of a name, of the library that answers for the services' module, of a reference
+-- or an import, of a process's module, of a library's segments.
 unfoldable pub linked_of : List Parts → Conf → Result LinkedParts LinkFault
 linked_of ms c = do
   _ ← over (name_step ms) ms 0
-  targets ← over (module_step ms (bases_of ms) c.ordinals) ms []
+  shim ← shim_of ms c.shim
+  targets ← over (module_step ms (bases_of ms) shim c.ordinals) ms []
   programs ← each (program_of ms) c.process
   _ ← over (region_step (bases_of ms)) ms 0
   Ok (outcome ms c targets programs)

@@ -20,10 +20,10 @@ abbrev pub memo_at : ℕ → ℕ → ℕ
 memo_at block at = block * 65536 + at
 
 -- what the memo has of a name is where each import of it leads
-abbrev pub IsMemo : List Parts → List ℕ → Parts → List (Option Target) → Type 0
-IsMemo ms bases m memo =
+abbrev pub IsMemo : List Parts → List ℕ → Option ℕ → Parts → List (Option Target) → Type 0
+IsMemo ms bases shim m memo =
     (block at : ℕ) (t : Target) (name : List ℕ) → at < 65536 → get_or memo (memo_at block at) None ≡ Some t
-    → block_of (lead_of ms name) ≡ Some block → import_text ms bases name (imported_name m at) ≡ Ok t
+    → block_of (lead_of ms name) ≡ Some block → import_text ms bases shim name (imported_name m at) ≡ Ok t
 
 -- the list at an index is what g gives of a number
 pub record IsKnown {F : Type 0} (g : ℕ → Result (List Target) F) (found : List (List Target)) (last : Last) : Type 0 where

@@ -5,7 +5,8 @@ ghost use Rattle.o2_conf.specs.Environments.{environment_bytes};
 ghost use Rattle.o2_ne.specs.Steps.{Gives, over};
 ghost use Rattle.o2_image.specs.ImageList.{Exists};
 ghost use Rattle.o2_dynlink.specs.Imports.{each, gather};
-ghost use Rattle.o2_dynlink.specs.Linking.{at_place, linked_of, module_step, module_targets, name_step, outcome, program_of, region_step};
+ghost use Rattle.o2_dynlink.specs.Linking.{at_place, linked_of, module_step, module_targets, name_step, outcome, program_of, region_step, shim_of, shim_or};
+ghost use Rattle.o2_dynlink.specs.Listed.{library_named};
 ghost use Rattle.o2_dynlink.specs.Outcome.{AllFit, Fitting};
 ghost use Rattle.o2_dynlink.specs.Selectors.{base_at, bases_of};
 
@@ -14,9 +15,9 @@ use crate::fault::LinkFault;
 use crate::gathering::targets_of;
 use crate::imports::Scope;
 use crate::linked::Linked;
-use crate::listed::{is_any_named, is_doscalls, lost_reference, module_named};
+use crate::listed::{is_any_named, is_doscalls, library_named, lost_reference, module_named};
 use crate::reached::libraries_of_all;
-use crate::refusals::{no_reference, no_selector, not_listed, two_modules};
+use crate::refusals::{no_reference, no_selector, no_shim, not_listed, two_modules};
 use crate::selectors::{base_at, bases_of};
 use o2_base::{Bytes, Fail, ModuleFault, NoMemory};
 use o2_conf::{Conf, Process};
@@ -56,6 +57,36 @@ fn check_names(alloc: Global, modules: &[Module]) -> Result<(), Fail<LinkFault>>
     Ok(())
 }
 
+// The place of the library of this name, which is to answer for the services' module.
+fn shim_named(
+    alloc: Global,
+    modules: &[Module],
+    name: &[u8],
+) -> Result<Option<u16>, Fail<LinkFault>>
+    requires { length modules.now ≤ 64 }
+    ensures { Gives (λ p. p) result (shim_or name.now (library_named modules.now name.now)) }
+{
+    match library_named(modules, name) {
+        Some(place) => Ok(Some(place)),
+        None => no_shim(alloc, name),
+    }
+}
+
+// The place of the library that answers for the services' module, if the machine file names one.
+fn shim_of(
+    alloc: Global,
+    modules: &[Module],
+    shim: &Option<Bytes>,
+) -> Result<Option<u16>, Fail<LinkFault>>
+    requires { length modules.now ≤ 64 }
+    ensures { Gives (λ p. p) result (shim_of modules.now shim.now) }
+{
+    match shim {
+        Some(name) => shim_named(alloc, modules, name.as_slice()),
+        None => Ok(None),
+    }
+}
+
 // Each reference of a module is to a listed library or to the services' module, and each import is defined.
 #[tactic(auto, unfolding(crate::specs::Linking::module_targets))]
 fn module_targets(
@@ -66,7 +97,7 @@ fn module_targets(
 ) -> Result<Resolved, Fail<ModuleFault>>
     requires few { length scope.now.modules.now ≤ 64 }
     requires same { length scope.now.bases.now ≡ length scope.now.modules.now }
-    ensures { Gives (λ r. r) result (module_targets scope.now.modules.now scope.now.bases.now scope.now.ordinals.now base «module».now) }
+    ensures { Gives (λ r. r) result (module_targets scope.now.modules.now scope.now.bases.now scope.now.shim scope.now.ordinals.now base «module».now) }
 {
     if let Some(name) = lost_reference(scope.modules, module) {
         return no_reference(alloc, name);
@@ -84,7 +115,7 @@ fn targets_at(
     requires few { length scope.now.modules.now ≤ 64 }
     requires same { length scope.now.bases.now ≡ length scope.now.modules.now }
     requires exists { Exists scope.now.modules.now place }
-    ensures { Gives (λ r. r) result (at_place place (module_targets scope.now.modules.now scope.now.bases.now scope.now.ordinals.now (base_at scope.now.bases.now place) «module».now)) }
+    ensures { Gives (λ r. r) result (at_place place (module_targets scope.now.modules.now scope.now.bases.now scope.now.shim scope.now.ordinals.now (base_at scope.now.bases.now place) «module».now)) }
 {
     match module_targets(alloc, scope, base_at(scope.bases, place), module) {
         Ok(targets) => Ok(targets),
@@ -104,7 +135,7 @@ fn add_module(
     requires few { length scope.now.modules.now ≤ 64 }
     requires same { length scope.now.bases.now ≡ length scope.now.modules.now }
     requires more { length found.old.items < length scope.now.modules.now }
-    ensures step { Gives (λ _. found.new.items) result (module_step scope.now.modules.now scope.now.bases.now scope.now.ordinals.now «module».now found.old.items) }
+    ensures step { Gives (λ _. found.new.items) result (module_step scope.now.modules.now scope.now.bases.now scope.now.shim scope.now.ordinals.now «module».now found.old.items) }
     ensures count { OnOk result (length found.new.items ≡ length found.old.items + 1) }
 {
     let place = found.len() as u16 + 1;
@@ -117,7 +148,7 @@ fn add_module(
 fn all_targets(alloc: Global, scope: &Scope) -> Result<Vec<Resolved>, Fail<LinkFault>>
     requires few { length scope.now.modules.now ≤ 64 }
     requires same { length scope.now.bases.now ≡ length scope.now.modules.now }
-    ensures exact { Gives (λ v. v.items) result (over (module_step scope.now.modules.now scope.now.bases.now scope.now.ordinals.now) scope.now.modules.now []) }
+    ensures exact { Gives (λ v. v.items) result (over (module_step scope.now.modules.now scope.now.bases.now scope.now.shim scope.now.ordinals.now) scope.now.modules.now []) }
     ensures fitting { IfOk result (λ v. Fitting scope.now.modules.now v.items) }
 {
     let mut found = Vec::new(alloc);
@@ -240,15 +271,15 @@ fn assemble(
     requires exist { All (Exists modules.items) programs.items }
     ensures { IfOk result (λ l. l ≡ outcome modules.items conf.now targets.items programs.items) }
 {
-    let libraries = libraries_of_all(alloc, modules.as_slice(), programs.as_slice())?;
+    let libraries = libraries_of_all(alloc, modules.as_slice(), &conf.shim, programs.as_slice())?;
     let environments = environments_of(alloc, conf.process.as_slice())?;
     let images = Images::new(pairs_of(alloc, modules, targets)?, environments);
     Ok(Linked::new(images, bases, programs, libraries))
 }
 
 /// Links the modules of a machine file, at most 64: what the imports of each lead to, and which modules each process gets;
-/// or the first refusal. No module may have the name of the services' module or of an earlier one. Then for each module each
-/// of its references must be to the services' module or to a listed library, and each of its imports must be defined. The
+/// or the first refusal. No module may have the name of the services' module or of an earlier one. The name of `shim` must be
+/// that of a listed library. Then for each module each of its references must be to the services' module or to a listed library, and each of its imports must be defined. The
 /// module of each process must be listed, and the libraries' segments must fit the shared region, indexes 4096 to 8191.
 /// Names are compared with ASCII letters folded.
 #[tactic(auto, unfolding(crate::specs::Linking::linked_of))]
@@ -263,6 +294,7 @@ pub fn link(alloc: Global, modules: Vec<Module>, conf: &Conf) -> Result<Linked, 
         modules: modules.as_slice(),
         bases: bases.as_slice(),
         ordinals: &conf.ordinals,
+        shim: shim_of(alloc, modules.as_slice(), &conf.shim)?,
     };
     let targets = all_targets(alloc, &scope)?;
     let programs = programs_of(alloc, modules.as_slice(), conf.process.as_slice())?;

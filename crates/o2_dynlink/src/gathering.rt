@@ -43,9 +43,9 @@ fn add_apart(
     requires leads { leads.now ≡ map (lead_of scope.now.modules.now) «module».now.references }
     requires few { length scope.now.modules.now ≤ 64 }
     requires same { length scope.now.bases.now ≡ length scope.now.modules.now }
-    requires memo { IsMemo scope.now.modules.now scope.now.bases.now «module».now memo.old.items }
-    ensures exact { Gives (λ _. found.new) result (gather (on_list (target_in scope.now.modules.now scope.now.bases.now scope.now.ordinals.now base «module».now) «module».now.relocs) seg found.old) }
-    ensures memo { IsMemo scope.now.modules.now scope.now.bases.now «module».now memo.new.items }
+    requires memo { IsMemo scope.now.modules.now scope.now.bases.now scope.now.shim «module».now memo.old.items }
+    ensures exact { Gives (λ _. found.new) result (gather (on_list (target_in scope.now.modules.now scope.now.bases.now scope.now.shim scope.now.ordinals.now base «module».now) «module».now.relocs) seg found.old) }
+    ensures memo { IsMemo scope.now.modules.now scope.now.bases.now scope.now.shim «module».now memo.new.items }
 {
     let targets = targets_in(alloc, scope, base, module, leads, seg, 0, memo)?;
     found.add(targets)?;
@@ -68,11 +68,11 @@ fn add_onwards(
     requires leads { leads.now ≡ map (lead_of scope.now.modules.now) «module».now.references }
     requires few { length scope.now.modules.now ≤ 64 }
     requires same { length scope.now.bases.now ≡ length scope.now.modules.now }
-    requires memo { IsMemo scope.now.modules.now scope.now.bases.now «module».now memo.old.items }
-    requires known { IsKnown (on_list (target_in scope.now.modules.now scope.now.bases.now scope.now.ordinals.now base «module».now) «module».now.relocs) found.old last }
+    requires memo { IsMemo scope.now.modules.now scope.now.bases.now scope.now.shim «module».now memo.old.items }
+    requires known { IsKnown (on_list (target_in scope.now.modules.now scope.now.bases.now scope.now.shim scope.now.ordinals.now base «module».now) «module».now.relocs) found.old last }
     requires precedes { Precedes skip (nth_list «module».now.relocs last.seg) (nth_list «module».now.relocs seg) }
-    ensures exact { Gives (λ _. found.new) result (gather (on_list (target_in scope.now.modules.now scope.now.bases.now scope.now.ordinals.now base «module».now) «module».now.relocs) seg found.old) }
-    ensures memo { IsMemo scope.now.modules.now scope.now.bases.now «module».now memo.new.items }
+    ensures exact { Gives (λ _. found.new) result (gather (on_list (target_in scope.now.modules.now scope.now.bases.now scope.now.shim scope.now.ordinals.now base «module».now) «module».now.relocs) seg found.old) }
+    ensures memo { IsMemo scope.now.modules.now scope.now.bases.now scope.now.shim «module».now memo.new.items }
 {
     let shared = module.segment_relocs(last.seg) - skip;
     let targets = targets_in(alloc, scope, base, module, leads, seg, shared, memo)?;
@@ -98,10 +98,10 @@ fn add_targets(
     requires leads { leads.now ≡ map (lead_of scope.now.modules.now) «module».now.references }
     requires few { length scope.now.modules.now ≤ 64 }
     requires same { length scope.now.bases.now ≡ length scope.now.modules.now }
-    requires memo { IsMemo scope.now.modules.now scope.now.bases.now «module».now memo.old.items }
-    requires known { IfSome last (IsKnown (on_list (target_in scope.now.modules.now scope.now.bases.now scope.now.ordinals.now base «module».now) «module».now.relocs) found.old) }
-    ensures exact { Gives (λ _. found.new) result (gather (on_list (target_in scope.now.modules.now scope.now.bases.now scope.now.ordinals.now base «module».now) «module».now.relocs) seg found.old) }
-    ensures memo { IsMemo scope.now.modules.now scope.now.bases.now «module».now memo.new.items }
+    requires memo { IsMemo scope.now.modules.now scope.now.bases.now scope.now.shim «module».now memo.old.items }
+    requires known { IfSome last (IsKnown (on_list (target_in scope.now.modules.now scope.now.bases.now scope.now.shim scope.now.ordinals.now base «module».now) «module».now.relocs) found.old) }
+    ensures exact { Gives (λ _. found.new) result (gather (on_list (target_in scope.now.modules.now scope.now.bases.now scope.now.shim scope.now.ordinals.now base «module».now) «module».now.relocs) seg found.old) }
+    ensures memo { IsMemo scope.now.modules.now scope.now.bases.now scope.now.shim «module».now memo.new.items }
 {
     let Some(last) = last else {
         return add_apart(alloc, scope, base, module, leads, seg, memo, found);
@@ -131,10 +131,10 @@ fn gather_in(
     requires leads { leads.now ≡ map (lead_of scope.now.modules.now) «module».now.references }
     requires few { length scope.now.modules.now ≤ 64 }
     requires same { length scope.now.bases.now ≡ length scope.now.modules.now }
-    requires memo { IsMemo scope.now.modules.now scope.now.bases.now «module».now memo.old.items }
+    requires memo { IsMemo scope.now.modules.now scope.now.bases.now scope.now.shim «module».now memo.old.items }
     requires short { length order.now ≤ 254 }
-    ensures exact { Gives (λ t. t) result (each (on_list (target_in scope.now.modules.now scope.now.bases.now scope.now.ordinals.now base «module».now) «module».now.relocs) order.now) }
-    ensures memo { IsMemo scope.now.modules.now scope.now.bases.now «module».now memo.new.items }
+    ensures exact { Gives (λ t. t) result (each (on_list (target_in scope.now.modules.now scope.now.bases.now scope.now.shim scope.now.ordinals.now base «module».now) «module».now.relocs) order.now) }
+    ensures memo { IsMemo scope.now.modules.now scope.now.bases.now scope.now.shim «module».now memo.new.items }
 {
     let mut found = SharedTargets::new(alloc);
     let mut last = None;
@@ -161,10 +161,10 @@ fn gathered_by(
     requires leads { leads.now ≡ map (lead_of scope.now.modules.now) «module».now.references }
     requires few { length scope.now.modules.now ≤ 64 }
     requires same { length scope.now.bases.now ≡ length scope.now.modules.now }
-    requires memo { IsMemo scope.now.modules.now scope.now.bases.now «module».now memo.old.items }
+    requires memo { IsMemo scope.now.modules.now scope.now.bases.now scope.now.shim «module».now memo.old.items }
     requires short { length order.now ≤ 254 }
-    ensures exact { IfOk result (λ o. IfSome o (λ r. targets_of scope.now.modules.now scope.now.bases.now scope.now.ordinals.now base «module».now ≡ Ok r)) }
-    ensures memo { IsMemo scope.now.modules.now scope.now.bases.now «module».now memo.new.items }
+    ensures exact { IfOk result (λ o. IfSome o (λ r. targets_of scope.now.modules.now scope.now.bases.now scope.now.shim scope.now.ordinals.now base «module».now ≡ Ok r)) }
+    ensures memo { IsMemo scope.now.modules.now scope.now.bases.now scope.now.shim «module».now memo.new.items }
 {
     module.is_runnable();
     let kept = places_of(alloc, order, module.segment_count())?;
@@ -191,9 +191,9 @@ fn check_segment(
     requires leads { leads.now ≡ map (lead_of scope.now.modules.now) «module».now.references }
     requires few { length scope.now.modules.now ≤ 64 }
     requires same { length scope.now.bases.now ≡ length scope.now.modules.now }
-    requires memo { IsMemo scope.now.modules.now scope.now.bases.now «module».now memo.old.items }
-    ensures exact { Gives (λ u. u) result (passed (on_list (target_in scope.now.modules.now scope.now.bases.now scope.now.ordinals.now base «module».now) «module».now.relocs seg)) }
-    ensures memo { IsMemo scope.now.modules.now scope.now.bases.now «module».now memo.new.items }
+    requires memo { IsMemo scope.now.modules.now scope.now.bases.now scope.now.shim «module».now memo.old.items }
+    ensures exact { Gives (λ u. u) result (passed (on_list (target_in scope.now.modules.now scope.now.bases.now scope.now.shim scope.now.ordinals.now base «module».now) «module».now.relocs seg)) }
+    ensures memo { IsMemo scope.now.modules.now scope.now.bases.now scope.now.shim «module».now memo.new.items }
 {
     let _targets = targets_in(alloc, scope, base, module, leads, seg, 0, memo)?;
     Ok(())
@@ -212,9 +212,9 @@ fn check_in(
     requires leads { leads.now ≡ map (lead_of scope.now.modules.now) «module».now.references }
     requires few { length scope.now.modules.now ≤ 64 }
     requires same { length scope.now.bases.now ≡ length scope.now.modules.now }
-    requires memo { IsMemo scope.now.modules.now scope.now.bases.now «module».now memo.old.items }
-    ensures exact { Gives (λ u. u) result (passed (each (on_list (target_in scope.now.modules.now scope.now.bases.now scope.now.ordinals.now base «module».now) «module».now.relocs) order.now)) }
-    ensures memo { IsMemo scope.now.modules.now scope.now.bases.now «module».now memo.new.items }
+    requires memo { IsMemo scope.now.modules.now scope.now.bases.now scope.now.shim «module».now memo.old.items }
+    ensures exact { Gives (λ u. u) result (passed (each (on_list (target_in scope.now.modules.now scope.now.bases.now scope.now.shim scope.now.ordinals.now base «module».now) «module».now.relocs) order.now)) }
+    ensures memo { IsMemo scope.now.modules.now scope.now.bases.now scope.now.shim «module».now memo.new.items }
 {
     for k in 0..order.len() {
         check_segment(alloc, scope, base, module, leads, order[k], memo)?;
@@ -234,8 +234,8 @@ fn in_turn(
     requires leads { leads.now ≡ map (lead_of scope.now.modules.now) «module».now.references }
     requires few { length scope.now.modules.now ≤ 64 }
     requires same { length scope.now.bases.now ≡ length scope.now.modules.now }
-    requires memo { IsMemo scope.now.modules.now scope.now.bases.now «module».now memo.old.items }
-    ensures { Gives (λ r. r) result (targets_of scope.now.modules.now scope.now.bases.now scope.now.ordinals.now base «module».now) }
+    requires memo { IsMemo scope.now.modules.now scope.now.bases.now scope.now.shim «module».now memo.old.items }
+    ensures { Gives (λ r. r) result (targets_of scope.now.modules.now scope.now.bases.now scope.now.shim scope.now.ordinals.now base «module».now) }
 {
     module.is_runnable();
     let numbers = numbers(alloc, module.segment_count())?;
@@ -255,7 +255,7 @@ pub(crate) fn targets_of(
 ) -> Result<Resolved, Fail<ModuleFault>>
     requires few { length scope.now.modules.now ≤ 64 }
     requires same { length scope.now.bases.now ≡ length scope.now.modules.now }
-    ensures { Gives (λ r. r) result (targets_of scope.now.modules.now scope.now.bases.now scope.now.ordinals.now base «module».now) }
+    ensures { Gives (λ r. r) result (targets_of scope.now.modules.now scope.now.bases.now scope.now.shim scope.now.ordinals.now base «module».now) }
 {
     let leads = leads_of(alloc, scope.modules, module)?;
     let mut memo = memo_for(alloc, scope.modules, module)?;

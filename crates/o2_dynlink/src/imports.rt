@@ -1,34 +1,36 @@
 // Where the records of a module lead: within it, to a service, or to what a library exports.
-ghost use Rattle.std.specs.Prelude.{◌≡◌, ◌-◌, ◌≤◌, ◌<◌, drop, length, map, option_and_then, slice_get, IfSome, Ok, Some};
+ghost use Rattle.std.specs.Prelude.{◌≡◌, ◌-◌, ◌≤◌, ◌<◌, drop, length, map, option_and_then, option_map, slice_get, IfSome, Ok, Some};
 ghost use Rattle.o2_ne.specs.Steps.{Gives};
 ghost use Rattle.o2_ne.specs.EntryTable.{target_of};
 ghost use Rattle.o2_ne.specs.NameTable.{ordinal_of};
 ghost use Rattle.o2_image.specs.Getters.{imported_name, nth, nth_list};
 ghost use Rattle.o2_image.specs.ImageList.{Exists};
 ghost use Rattle.o2_image.specs.Targets.{target_kind};
-ghost use Rattle.o2_dynlink.specs.Imports.{each, exported, exported_as, gather, import_name, import_ordinal, import_text, imported, internal, target_in};
+ghost use Rattle.o2_dynlink.specs.Imports.{base_for, each, exported, exported_as, found_at, gate_of_built, gate_or, gather, import_name, import_ordinal, import_text, imported, internal, service_called, service_with, shim_name, shim_ordinal, target_in};
 ghost use Rattle.o2_dynlink.specs.Leads.{lead_of};
 ghost use Rattle.o2_dynlink.specs.Memo.{IsMemo};
 ghost use Rattle.o2_dynlink.specs.Selectors.{base_at};
 
 use crate::leads::{Lead, lead_at};
+use crate::listed::module_at;
 use crate::memo::{block_of, known, note};
 use crate::refusals::{no_module, no_name, no_ordinal};
-use crate::selectors::{base_at, point};
-use crate::services::{import_service, import_service_called};
+use crate::selectors::{base_at, base_or_0, point};
+use crate::services::{service_gate, service_gate_called};
 use o2_base::{Fail, ModuleFault};
 use o2_conf::Ordinals;
 use o2_image::Module;
 use o2_ne_segs::Reloc;
 use std::alloc::Global;
 
-// What imports are looked up in: the listed modules, what is added to the numbers of the segments of each, and the ordinals
-// of the services.
+// What imports are looked up in: the listed modules, what is added to the numbers of the segments of each, the ordinals of
+// the services, and the place of the library that answers for their module where they don't.
 #[derive(Drop)]
 pub(crate) struct Scope<'a> {
     pub(crate) modules: &'a [Module],
     pub(crate) bases: &'a [u16],
     pub(crate) ordinals: &'a Ordinals,
+    pub(crate) shim: Option<u16>,
 }
 
 // An entry of the library at a place, by its ordinal.
@@ -79,6 +81,74 @@ fn exported_as(
     }
 }
 
+// The library that answers for the services' module, with what is added to the numbers of its segments.
+fn shim_of<'a>(scope: &Scope<'a>) -> Option<(u16, &'a Module)>
+    ensures module { option_map (λ p. p.1.now) result ≡ found_at scope.now.modules.now scope.now.shim }
+    ensures base { IfSome result (λ p. p.0 ≡ base_for scope.now.bases.now scope.now.shim) }
+{
+    let Some(place) = scope.shim else {
+        return None;
+    };
+    match module_at(scope.modules, place) {
+        Some(module) => Some((base_or_0(scope.bases, place), module)),
+        None => None,
+    }
+}
+
+// An entry of that library, by its ordinal.
+fn shim_ordinal(alloc: Global, scope: &Scope, ordinal: u16) -> Result<(u16, u16), Fail<ModuleFault>>
+    ensures { Gives (λ t. t) result (shim_ordinal scope.now.modules.now scope.now.bases.now scope.now.shim ordinal) }
+{
+    let Some((base, library)) = shim_of(scope) else {
+        return no_ordinal(alloc, b"DOSCALLS", ordinal);
+    };
+    match library.entries().get(ordinal) {
+        Some(entry) => Ok(point(base, entry)),
+        None => no_ordinal(alloc, b"DOSCALLS", ordinal),
+    }
+}
+
+// An entry of that library, by its name.
+fn shim_name(alloc: Global, scope: &Scope, text: &[u8]) -> Result<(u16, u16), Fail<ModuleFault>>
+    ensures { Gives (λ t. t) result (shim_name scope.now.modules.now scope.now.bases.now scope.now.shim text.now) }
+{
+    let Some((base, library)) = shim_of(scope) else {
+        return no_name(alloc, b"DOSCALLS", text);
+    };
+    match entry_called(library, text) {
+        Some(entry) => Ok(point(base, entry)),
+        None => no_name(alloc, b"DOSCALLS", text),
+    }
+}
+
+// An import of the services' module by ordinal: of a built service, or of the library that answers for them.
+fn import_service(
+    alloc: Global,
+    scope: &Scope,
+    ordinal: u16,
+) -> Result<(u16, u16), Fail<ModuleFault>>
+    ensures { Gives (λ t. t) result (gate_or (gate_of_built (service_with scope.now.ordinals.now ordinal)) (shim_ordinal scope.now.modules.now scope.now.bases.now scope.now.shim ordinal)) }
+{
+    match service_gate(scope.ordinals, ordinal) {
+        Some(gate) => Ok(gate),
+        None => shim_ordinal(alloc, scope, ordinal),
+    }
+}
+
+// The same by a name.
+fn import_service_called(
+    alloc: Global,
+    scope: &Scope,
+    text: &[u8],
+) -> Result<(u16, u16), Fail<ModuleFault>>
+    ensures { Gives (λ t. t) result (gate_or (gate_of_built (service_called text.now)) (shim_name scope.now.modules.now scope.now.bases.now scope.now.shim text.now)) }
+{
+    match service_gate_called(text) {
+        Some(gate) => Ok(gate),
+        None => shim_name(alloc, scope, text),
+    }
+}
+
 // An import by ordinal of the module of a name.
 #[tactic(auto, using(crate::proofs::Leading::library_exists))]
 fn import_ordinal(
@@ -91,10 +161,10 @@ fn import_ordinal(
     requires lead { lead ≡ lead_of scope.now.modules.now name.now }
     requires few { length scope.now.modules.now ≤ 64 }
     requires same { length scope.now.bases.now ≡ length scope.now.modules.now }
-    ensures { Gives (λ t. t) result (import_ordinal scope.now.modules.now scope.now.bases.now scope.now.ordinals.now name.now ordinal) }
+    ensures { Gives (λ t. t) result (import_ordinal scope.now.modules.now scope.now.bases.now scope.now.shim scope.now.ordinals.now name.now ordinal) }
 {
     match lead {
-        Lead::Services => import_service(alloc, scope.ordinals, ordinal),
+        Lead::Services => import_service(alloc, scope, ordinal),
         Lead::Library(place) => exported(alloc, scope, place, name, ordinal),
         Lead::Nowhere => no_module(alloc, name),
     }
@@ -112,10 +182,10 @@ fn import_name(
     requires lead { lead ≡ lead_of scope.now.modules.now name.now }
     requires few { length scope.now.modules.now ≤ 64 }
     requires same { length scope.now.bases.now ≡ length scope.now.modules.now }
-    ensures { Gives (λ t. t) result (import_name scope.now.modules.now scope.now.bases.now name.now text.now) }
+    ensures { Gives (λ t. t) result (import_name scope.now.modules.now scope.now.bases.now scope.now.shim name.now text.now) }
 {
     match lead {
-        Lead::Services => import_service_called(alloc, text),
+        Lead::Services => import_service_called(alloc, scope, text),
         Lead::Library(place) => exported_as(alloc, scope, place, name, text),
         Lead::Nowhere => no_module(alloc, name),
     }
@@ -147,7 +217,7 @@ fn import_text(
     requires lead { lead ≡ lead_of scope.now.modules.now name.now }
     requires few { length scope.now.modules.now ≤ 64 }
     requires same { length scope.now.bases.now ≡ length scope.now.modules.now }
-    ensures { Gives (λ t. t) result (import_text scope.now.modules.now scope.now.bases.now name.now (imported_name «module».now at)) }
+    ensures { Gives (λ t. t) result (import_text scope.now.modules.now scope.now.bases.now scope.now.shim name.now (imported_name «module».now at)) }
 {
     match module.imported(at) {
         Some(text) => import_name(alloc, scope, lead, name, text),
@@ -169,9 +239,9 @@ fn import_noted(
     requires lead { lead ≡ lead_of scope.now.modules.now name.now }
     requires few { length scope.now.modules.now ≤ 64 }
     requires same { length scope.now.bases.now ≡ length scope.now.modules.now }
-    requires memo { IsMemo scope.now.modules.now scope.now.bases.now «module».now memo.old.items }
-    ensures exact { Gives (λ t. t) result (import_text scope.now.modules.now scope.now.bases.now name.now (imported_name «module».now at)) }
-    ensures memo { IsMemo scope.now.modules.now scope.now.bases.now «module».now memo.new.items }
+    requires memo { IsMemo scope.now.modules.now scope.now.bases.now scope.now.shim «module».now memo.old.items }
+    ensures exact { Gives (λ t. t) result (import_text scope.now.modules.now scope.now.bases.now scope.now.shim name.now (imported_name «module».now at)) }
+    ensures memo { IsMemo scope.now.modules.now scope.now.bases.now scope.now.shim «module».now memo.new.items }
 {
     let Some(block) = block_of(lead) else {
         return import_text(alloc, scope, module, lead, name, at);
@@ -193,9 +263,9 @@ fn imported(
     requires leads { leads.now ≡ map (lead_of scope.now.modules.now) «module».now.references }
     requires few { length scope.now.modules.now ≤ 64 }
     requires same { length scope.now.bases.now ≡ length scope.now.modules.now }
-    requires memo { IsMemo scope.now.modules.now scope.now.bases.now «module».now memo.old.items }
-    ensures exact { Gives (λ t. t) result (imported scope.now.modules.now scope.now.bases.now scope.now.ordinals.now «module».now reloc.now (nth «module».now.references reloc.now.first)) }
-    ensures memo { IsMemo scope.now.modules.now scope.now.bases.now «module».now memo.new.items }
+    requires memo { IsMemo scope.now.modules.now scope.now.bases.now scope.now.shim «module».now memo.old.items }
+    ensures exact { Gives (λ t. t) result (imported scope.now.modules.now scope.now.bases.now scope.now.shim scope.now.ordinals.now «module».now reloc.now (nth «module».now.references reloc.now.first)) }
+    ensures memo { IsMemo scope.now.modules.now scope.now.bases.now scope.now.shim «module».now memo.new.items }
 {
     let Some(name) = module.reference(reloc.first) else {
         return Ok((0, 0));
@@ -222,9 +292,9 @@ fn target_in(
     requires leads { leads.now ≡ map (lead_of scope.now.modules.now) «module».now.references }
     requires few { length scope.now.modules.now ≤ 64 }
     requires same { length scope.now.bases.now ≡ length scope.now.modules.now }
-    requires memo { IsMemo scope.now.modules.now scope.now.bases.now «module».now memo.old.items }
-    ensures exact { Gives (λ t. t) result (target_in scope.now.modules.now scope.now.bases.now scope.now.ordinals.now base «module».now reloc.now) }
-    ensures memo { IsMemo scope.now.modules.now scope.now.bases.now «module».now memo.new.items }
+    requires memo { IsMemo scope.now.modules.now scope.now.bases.now scope.now.shim «module».now memo.old.items }
+    ensures exact { Gives (λ t. t) result (target_in scope.now.modules.now scope.now.bases.now scope.now.shim scope.now.ordinals.now base «module».now reloc.now) }
+    ensures memo { IsMemo scope.now.modules.now scope.now.bases.now scope.now.shim «module».now memo.new.items }
 {
     match reloc.flags & 3 {
         0 => Ok(internal(base, module, reloc)),
@@ -242,9 +312,9 @@ fn known_import(
     memo: &[Option<(u16, u16)>],
 ) -> Option<(u16, u16)>
     requires leads { leads.now ≡ map (lead_of scope.now.modules.now) «module».now.references }
-    requires memo { IsMemo scope.now.modules.now scope.now.bases.now «module».now memo.now }
+    requires memo { IsMemo scope.now.modules.now scope.now.bases.now scope.now.shim «module».now memo.now }
     requires named { target_kind reloc.now ≡ 2 }
-    ensures { IfSome result (λ t. imported scope.now.modules.now scope.now.bases.now scope.now.ordinals.now «module».now reloc.now (nth «module».now.references reloc.now.first) ≡ Ok t) }
+    ensures { IfSome result (λ t. imported scope.now.modules.now scope.now.bases.now scope.now.shim scope.now.ordinals.now «module».now reloc.now (nth «module».now.references reloc.now.first) ≡ Ok t) }
 {
     let Some(lead) = lead_at(leads, reloc.first) else {
         return None;
@@ -265,8 +335,8 @@ fn known_target(
     memo: &[Option<(u16, u16)>],
 ) -> Option<(u16, u16)>
     requires leads { leads.now ≡ map (lead_of scope.now.modules.now) «module».now.references }
-    requires memo { IsMemo scope.now.modules.now scope.now.bases.now «module».now memo.now }
-    ensures { IfSome result (λ t. target_in scope.now.modules.now scope.now.bases.now scope.now.ordinals.now base «module».now reloc.now ≡ Ok t) }
+    requires memo { IsMemo scope.now.modules.now scope.now.bases.now scope.now.shim «module».now memo.now }
+    ensures { IfSome result (λ t. target_in scope.now.modules.now scope.now.bases.now scope.now.shim scope.now.ordinals.now base «module».now reloc.now ≡ Ok t) }
 {
     match reloc.flags & 3 {
         0 => Some(internal(base, module, reloc)),
@@ -290,9 +360,9 @@ fn add_target(
     requires leads { leads.now ≡ map (lead_of scope.now.modules.now) «module».now.references }
     requires few { length scope.now.modules.now ≤ 64 }
     requires same { length scope.now.bases.now ≡ length scope.now.modules.now }
-    requires memo { IsMemo scope.now.modules.now scope.now.bases.now «module».now memo.old.items }
-    ensures exact { Gives (λ _. found.new.items) result (gather (target_in scope.now.modules.now scope.now.bases.now scope.now.ordinals.now base «module».now) reloc.now found.old.items) }
-    ensures memo { IsMemo scope.now.modules.now scope.now.bases.now «module».now memo.new.items }
+    requires memo { IsMemo scope.now.modules.now scope.now.bases.now scope.now.shim «module».now memo.old.items }
+    ensures exact { Gives (λ _. found.new.items) result (gather (target_in scope.now.modules.now scope.now.bases.now scope.now.shim scope.now.ordinals.now base «module».now) reloc.now found.old.items) }
+    ensures memo { IsMemo scope.now.modules.now scope.now.bases.now scope.now.shim «module».now memo.new.items }
 {
     if let Some(target) = known_target(scope, base, module, leads, reloc, memo.as_slice()) {
         found.push(target)?;
@@ -328,10 +398,10 @@ pub(crate) fn targets_in(
     requires leads { leads.now ≡ map (lead_of scope.now.modules.now) «module».now.references }
     requires few { length scope.now.modules.now ≤ 64 }
     requires same { length scope.now.bases.now ≡ length scope.now.modules.now }
-    requires memo { IsMemo scope.now.modules.now scope.now.bases.now «module».now memo.old.items }
+    requires memo { IsMemo scope.now.modules.now scope.now.bases.now scope.now.shim «module».now memo.old.items }
     requires from { from ≤ length (nth_list «module».now.relocs seg) }
-    ensures exact { Gives (λ v. v.items) result (each (target_in scope.now.modules.now scope.now.bases.now scope.now.ordinals.now base «module».now) (drop from (nth_list «module».now.relocs seg))) }
-    ensures memo { IsMemo scope.now.modules.now scope.now.bases.now «module».now memo.new.items }
+    ensures exact { Gives (λ v. v.items) result (each (target_in scope.now.modules.now scope.now.bases.now scope.now.shim scope.now.ordinals.now base «module».now) (drop from (nth_list «module».now.relocs seg))) }
+    ensures memo { IsMemo scope.now.modules.now scope.now.bases.now scope.now.shim «module».now memo.new.items }
 {
     let mut found = Vec::new(alloc);
     for k in from..module.segment_relocs(seg) {

@@ -1,6 +1,7 @@
 // The listed modules, by their names.
 ghost use Rattle.std.specs.Prelude.{◌≡◌, ◌<◌, ◌≤◌, [], get_or, length, option_map, position, IfSome};
 ghost use Rattle.std.specs.List.{list_any};
+ghost use Rattle.o2_image.specs.Getters.{nth};
 ghost use Rattle.o2_image.specs.ImageList.{Exists};
 ghost use Rattle.o2_dynlink.specs.Listed.{is_doscalls, is_library_named, is_named, library_named, lost_reference, may_refer, module_named};
 
@@ -14,7 +15,7 @@ pub(crate) fn is_doscalls(name: &[u8]) -> bool
     is_same_name(name, b"DOSCALLS")
 }
 
-fn is_named(module: &Module, name: &[u8]) -> bool
+pub(crate) fn is_named(module: &Module, name: &[u8]) -> bool
     ensures { result ≡ is_named name.now «module».now }
 {
     is_same_name(module.name().as_slice(), name)
@@ -77,6 +78,16 @@ pub(crate) fn library_named(modules: &[Module], name: &[u8]) -> Option<u16>
         Some(i) => Some(i as u16 + 1),
         None => None,
     }
+}
+
+// The module at a place from 1.
+pub(crate) fn module_at(modules: &[Module], place: u16) -> Option<&Module>
+    ensures { option_map (λ m. m.now) result ≡ nth modules.now place }
+{
+    if place == 0 {
+        return None;
+    }
+    modules.get(usize::from(place) - 1)
 }
 
 // Whether a reference may be to this name.

@@ -1,25 +1,41 @@
 // Which libraries the references of a module reach, directly or through libraries.
 ghost use Rattle.std.specs.Prelude.{◌≡◌, ◌+◌, ◌≤◌, ◌<◌, ◌&&◌, ◌||◌, false, get_or, length, map, All, IfOk};
 ghost use Rattle.std.specs.List.{list_any};
-ghost use Rattle.o2_ne.specs.NameTable.{same_name};
 ghost use Rattle.o2_image.specs.Getters.{nth_list};
 ghost use Rattle.o2_image.specs.ImageList.{Exists};
 ghost use Rattle.o2_dynlink.specs.Marks.{both_any, next_marks};
-ghost use Rattle.o2_dynlink.specs.Reached.{libraries_of, marked, reaches, refers};
+ghost use Rattle.o2_dynlink.specs.Reached.{answers, leads_to, libraries_of, marked, reaches, refers};
 
-use crate::listed::reference_from_0;
-use o2_base::NoMemory;
+use crate::listed::{is_doscalls, is_named, reference_from_0};
+use o2_base::{Bytes, NoMemory};
 use o2_image::Module;
 use o2_ne::is_same_name;
 use std::alloc::Global;
 
-// Whether a reference of the module is to this name.
-fn has_reference(module: &Module, name: &[u8]) -> bool
-    ensures { result ≡ list_any (λ n. same_name name.now n) «module».now.references }
+/// Whether the module is the one that answers for the services' module, as the machine file names it.
+pub fn answers(shim: &Option<Bytes>, module: &Module) -> bool
+    ensures { result ≡ answers shim.now «module».now }
+{
+    match shim {
+        Some(name) => is_named(module, name.as_slice()),
+        None => false,
+    }
+}
+
+// Whether a reference to a name is to the library of this name.
+fn leads_to(own: &[u8], also: bool, name: &[u8]) -> bool
+    ensures { result ≡ leads_to own.now also name.now }
+{
+    also && is_doscalls(name) || is_same_name(own, name)
+}
+
+// Whether a reference of the module is to the library of this name.
+fn has_reference(module: &Module, own: &[u8], also: bool) -> bool
+    ensures { result ≡ list_any (leads_to own.now also) «module».now.references }
 {
     module.is_runnable();
     for k in 0..module.head().references {
-        if is_same_name(name, reference_from_0(module, k)) {
+        if leads_to(own, also, reference_from_0(module, k)) {
             return true;
         }
     }
@@ -27,35 +43,55 @@ fn has_reference(module: &Module, name: &[u8]) -> bool
 }
 
 // Whether a reference of the module is to this library.
-fn refers(module: &Module, library: &Module) -> bool
-    ensures { result ≡ refers «module».now library.now }
+fn refers(shim: &Option<Bytes>, module: &Module, library: &Module) -> bool
+    ensures { result ≡ refers shim.now «module».now library.now }
 {
-    library.is_library() && has_reference(module, library.name().as_slice())
+    library.is_library() && has_reference(module, library.name().as_slice(), answers(shim, library))
 }
 
 // Which of the modules are libraries that the module refers to.
-fn referred(alloc: Global, module: &Module, modules: &[Module]) -> Result<Vec<bool>, NoMemory>
-    ensures { IfOk result (λ v. v.items ≡ map (refers «module».now) modules.now) }
+fn referred(
+    alloc: Global,
+    shim: &Option<Bytes>,
+    module: &Module,
+    modules: &[Module],
+) -> Result<Vec<bool>, NoMemory>
+    ensures { IfOk result (λ v. v.items ≡ map (refers shim.now «module».now) modules.now) }
 {
-    let marks = modules.iter().map(|l| refers(module, l)).collect(alloc)?;
+    let marks = modules
+        .iter()
+        .map(|l| refers(shim, module, l))
+        .collect(alloc)?;
     Ok(marks)
 }
 
 // Which of the modules refer to a library.
-fn referrers(alloc: Global, library: &Module, modules: &[Module]) -> Result<Vec<bool>, NoMemory>
-    ensures { IfOk result (λ v. v.items ≡ map (λ m. refers m library.now) modules.now) }
+fn referrers(
+    alloc: Global,
+    shim: &Option<Bytes>,
+    library: &Module,
+    modules: &[Module],
+) -> Result<Vec<bool>, NoMemory>
+    ensures { IfOk result (λ v. v.items ≡ map (λ m. refers shim.now m library.now) modules.now) }
 {
-    let marks = modules.iter().map(|m| refers(m, library)).collect(alloc)?;
+    let marks = modules
+        .iter()
+        .map(|m| refers(shim, m, library))
+        .collect(alloc)?;
     Ok(marks)
 }
 
 // For each module, which of the modules refer to it.
-pub(crate) fn columns_of(alloc: Global, modules: &[Module]) -> Result<Vec<Vec<bool>>, NoMemory>
-    ensures { IfOk result (λ v. map (λ c. c.items) v.items ≡ map (λ l. map (λ m. refers m l) modules.now) modules.now) }
+pub(crate) fn columns_of(
+    alloc: Global,
+    shim: &Option<Bytes>,
+    modules: &[Module],
+) -> Result<Vec<Vec<bool>>, NoMemory>
+    ensures { IfOk result (λ v. map (λ c. c.items) v.items ≡ map (λ l. map (λ m. refers shim.now m l) modules.now) modules.now) }
 {
     let mut columns = Vec::new(alloc);
     for library in modules {
-        columns.push(referrers(alloc, library, modules)?)?;
+        columns.push(referrers(alloc, shim, library, modules)?)?;
     }
     Ok(columns)
 }
@@ -120,15 +156,16 @@ fn next_marks(
 // The libraries that a module reaches, as marks.
 fn reached_marks(
     alloc: Global,
+    shim: &Option<Bytes>,
     modules: &[Module],
     columns: &[Vec<bool>],
     module: &Module,
 ) -> Result<Vec<bool>, NoMemory>
-    requires { map (λ c. c.items) columns.now ≡ map (λ l. map (λ m. refers m l) modules.now) modules.now }
-    ensures { IfOk result (λ v. v.items ≡ map (reaches modules.now (length modules.now) «module».now) modules.now) }
+    requires { map (λ c. c.items) columns.now ≡ map (λ l. map (λ m. refers shim.now m l) modules.now) modules.now }
+    ensures { IfOk result (λ v. v.items ≡ map (reaches shim.now modules.now (length modules.now) «module».now) modules.now) }
 {
-    let first = referred(alloc, module, modules)?;
-    let mut marks = referred(alloc, module, modules)?;
+    let first = referred(alloc, shim, module, modules)?;
+    let mut marks = referred(alloc, shim, module, modules)?;
     for _ in 0..modules.len() {
         marks = next_marks(alloc, first.as_slice(), columns, marks.as_slice())?;
     }
@@ -152,17 +189,18 @@ fn places_of(alloc: Global, marks: &[bool]) -> Result<Vec<u16>, NoMemory>
 // The places of the libraries that the module at a place reaches.
 fn libraries_of(
     alloc: Global,
+    shim: &Option<Bytes>,
     modules: &[Module],
     columns: &[Vec<bool>],
     place: u16,
 ) -> Result<Vec<u16>, NoMemory>
     requires few { length modules.now ≤ 64 }
     requires exists { Exists modules.now place }
-    requires columns { map (λ c. c.items) columns.now ≡ map (λ l. map (λ m. refers m l) modules.now) modules.now }
-    ensures { IfOk result (λ v. v.items ≡ libraries_of modules.now place) }
+    requires columns { map (λ c. c.items) columns.now ≡ map (λ l. map (λ m. refers shim.now m l) modules.now) modules.now }
+    ensures { IfOk result (λ v. v.items ≡ libraries_of shim.now modules.now place) }
 {
     let module = &modules[usize::from(place) - 1];
-    let marks = reached_marks(alloc, modules, columns, module)?;
+    let marks = reached_marks(alloc, shim, modules, columns, module)?;
     places_of(alloc, marks.as_slice())
 }
 
@@ -170,16 +208,17 @@ fn libraries_of(
 pub(crate) fn libraries_of_all(
     alloc: Global,
     modules: &[Module],
+    shim: &Option<Bytes>,
     places: &[u16],
 ) -> Result<Vec<Vec<u16>>, NoMemory>
     requires few { length modules.now ≤ 64 }
     requires exists { All (Exists modules.now) places.now }
-    ensures { IfOk result (λ v. map (λ l. l.items) v.items ≡ map (libraries_of modules.now) places.now) }
+    ensures { IfOk result (λ v. map (λ l. l.items) v.items ≡ map (libraries_of shim.now modules.now) places.now) }
 {
-    let columns = columns_of(alloc, modules)?;
+    let columns = columns_of(alloc, shim, modules)?;
     let mut lists = Vec::new(alloc);
     for place in places {
-        lists.push(libraries_of(alloc, modules, columns.as_slice(), *place)?)?;
+        lists.push(libraries_of(alloc, shim, modules, columns.as_slice(), *place)?)?;
     }
     Ok(lists)
 }

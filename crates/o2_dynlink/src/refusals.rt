@@ -1,5 +1,5 @@
 // Refusals, which own the names that they tell.
-ghost use Rattle.std.specs.Prelude.{ℕ, List, Err};
+ghost use Rattle.std.specs.Prelude.{ℕ, List, Option, Err};
 ghost use Rattle.o2_base.specs.declared.faults.ModuleFault.TheVariants as fault;
 ghost use Rattle.o2_ne.specs.Steps.{Gives};
 ghost use Rattle.o2_image.specs.Images.{Target};
@@ -81,5 +81,16 @@ pub(crate) fn not_listed(alloc: Global, name: &[u8]) -> Result<u16, Fail<LinkFau
     Err(Fail::Bad(LinkFault {
         file: 0,
         fault: ModuleFault::NoModule(name),
+    }))
+}
+
+// No listed library has the name that is to answer for the services' module.
+pub(crate) fn no_shim(alloc: Global, name: &[u8]) -> Result<Option<u16>, Fail<LinkFault>>
+    ensures { Gives {Y = Option ℕ} (λ p. p) result (Err (refusal 0 (fault.NoShim name.now))) }
+{
+    let name = Bytes::from_slice(alloc, name)?;
+    Err(Fail::Bad(LinkFault {
+        file: 0,
+        fault: ModuleFault::NoShim(name),
     }))
 }

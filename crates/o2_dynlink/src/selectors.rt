@@ -52,6 +52,16 @@ pub(crate) fn base_at(bases: &[u16], place: u16) -> u16
     bases[usize::from(place) - 1]
 }
 
+// The same at a place where there may be none.
+pub(crate) fn base_or_0(bases: &[u16], place: u16) -> u16
+    ensures { result ≡ base_at bases.now place }
+{
+    match bases.get(usize::from(place.saturating_sub(1))) {
+        Some(base) => *base,
+        None => 0,
+    }
+}
+
 // The selector of a segment of the module with this base, and an offset.
 pub(crate) fn point(base: u16, entry: (u8, u16)) -> (u16, u16)
     ensures { result ≡ point base entry }

@@ -1,16 +1,11 @@
-// Imports of the services' module.
+// The services' gates.
 ghost use Rattle.std.specs.Prelude.{◌≡◌, ◌==◌, find, option_map, IsTrue};
 ghost use Rattle.o2_base.specs.Services.{gate_of, is_built};
-ghost use Rattle.o2_base.specs.declared.faults.ModuleFault.TheVariants as fault;
-ghost use Rattle.o2_ne.specs.Steps.{Gives};
-ghost use Rattle.o2_dynlink.specs.Imports.{gate_or, service_called, service_with};
-ghost use Rattle.o2_dynlink.specs.Listed.{doscalls};
+ghost use Rattle.o2_dynlink.specs.Imports.{gate_of_built, service_called, service_with};
 
-use crate::refusals::{no_name, no_ordinal};
-use o2_base::{Fail, ModuleFault, SERVICE_COUNT, gate_selector, is_built, service_at};
+use o2_base::{SERVICE_COUNT, gate_selector, is_built, service_at};
 use o2_conf::Ordinals;
 use o2_ne::is_same_name;
-use std::alloc::Global;
 
 // The service with this ordinal among these.
 fn service_in(ordinals: &[(u16, u16)], ordinal: u16) -> Option<u16>
@@ -50,35 +45,31 @@ fn gate(number: u16) -> (u16, u16)
     (gate_selector(number), 0)
 }
 
-/// Where an import of the services' module by its ordinal leads: to the service's gate.
-pub(crate) fn import_service(
-    alloc: Global,
-    ordinals: &Ordinals,
-    ordinal: u16,
-) -> Result<(u16, u16), Fail<ModuleFault>>
-    ensures { Gives (λ t. t) result (gate_or (service_with ordinals.now ordinal) (fault.NoOrdinal doscalls ordinal)) }
+// The gate of a service, where the machine has it.
+fn built_gate(number: Option<u16>) -> Option<(u16, u16)>
+    ensures { result ≡ gate_of_built number }
 {
-    let Some(number) = service_with(ordinals, ordinal) else {
-        return no_ordinal(alloc, b"DOSCALLS", ordinal);
-    };
-    if !is_built(number) {
-        return no_ordinal(alloc, b"DOSCALLS", ordinal);
+    match number {
+        Some(number) => {
+            if is_built(number) {
+                return Some(gate(number));
+            }
+            None
+        }
+        None => None,
     }
-    Ok(gate(number))
 }
 
-/// Where an import of the services' module by a name leads: to the service's gate.
-pub(crate) fn import_service_called(
-    alloc: Global,
-    name: &[u8],
-) -> Result<(u16, u16), Fail<ModuleFault>>
-    ensures { Gives (λ t. t) result (gate_or (service_called name.now) (fault.NoName doscalls name.now)) }
+/// The gate of the built service that has this ordinal.
+pub(crate) fn service_gate(ordinals: &Ordinals, ordinal: u16) -> Option<(u16, u16)>
+    ensures { result ≡ gate_of_built (service_with ordinals.now ordinal) }
 {
-    let Some(number) = service_called(name) else {
-        return no_name(alloc, b"DOSCALLS", name);
-    };
-    if !is_built(number) {
-        return no_name(alloc, b"DOSCALLS", name);
-    }
-    Ok(gate(number))
+    built_gate(service_with(ordinals, ordinal))
+}
+
+/// The gate of the built service of this name.
+pub(crate) fn service_gate_called(name: &[u8]) -> Option<(u16, u16)>
+    ensures { result ≡ gate_of_built (service_called name.now) }
+{
+    built_gate(service_called(name))
 }

@@ -1,5 +1,5 @@
 -- The setting of a bench with n processes of its module, which have no arguments and environment strings.
-use Rattle.std.specs.Prelude.{ℕ, [], ◌∷◌, codes, replicate}
+use Rattle.std.specs.Prelude.{ℕ, [], ◌∷◌, None, codes, replicate}
 use Rattle.o2_conf.specs.declared.conf.Conf.{Conf}
 use Rattle.o2_conf.specs.Alone.{bare_process}
 use Rattle.o2_conf.specs.Ordinals.{default_ordinals}
@@ -16,4 +16,5 @@ bench_setting n = record {
   process = replicate n (bare_process (codes "BENCH"));
   ordinals = default_ordinals;
   script = [];
+  shim = None;
 }

@@ -32,7 +32,7 @@ fn processes(alloc: Global, count: u16) -> Result<Processes, NoMemory>
 
 /// The setting of a bench with 1 to 64 processes: memory 32,768, 16,384 blocks of swap, 2,048 segments, budget 1,000,000, quantum 7, no
 /// avail; the module file `bench.exe`, of whose module each process is, without arguments and environment strings; the ordinals of the
-/// table of services, and no script.
+/// table of services, no script and no shim.
 #[tactic(auto, using(crate::proofs::Settings::within))]
 pub fn machine(alloc: Global, count: u16) -> Result<Conf, NoMemory>
     requires some { 1 ≤ count }
@@ -59,5 +59,6 @@ pub fn machine(alloc: Global, count: u16) -> Result<Conf, NoMemory>
         process: processes(alloc, count)?,
         ordinals,
         script,
+        shim: None,
     })
 }

@@ -21,7 +21,7 @@ use Rattle.o2_image.specs.Parts.{Parts}
 use Rattle.o2_image.specs.Whole.{IsRunnable}
 use Rattle.o2_dynlink.specs.declared.fault.LinkFault.{LinkFault}
 use Rattle.o2_dynlink.specs.Imports.{each}
-use Rattle.o2_dynlink.specs.Linking.{name_step, module_step, region_step, program_of, outcome, linked_of}
+use Rattle.o2_dynlink.specs.Linking.{name_step, module_step, region_step, program_of, outcome, linked_of, shim_of}
 use Rattle.o2_dynlink.specs.Outcome.{LinkedParts, Fitting, Targets, modules_of}
 use Rattle.o2_dynlink.specs.Reached.{refers, reaches, marked, reached_by, libraries_of}
 use Rattle.o2_dynlink.specs.Selectors.{shared_after, base_after, bases_from, bases_of, base_at, index_of}
@@ -133,13 +133,13 @@ or_either : {P : Type 0} (a b : Bool) → (a || b) ≡ true → (a ≡ true → 
 or_either true b e f g = f refl
 or_either false b e f g = g e
 
-any_refers : (g : Parts → Bool) (l : Parts) (ks : List Parts) → list_any (λ k. g k && refers k l) ks ≡ true → is_library l ≡ true
-any_refers g l [] e = cc
-any_refers g l (k ∷ ks) e = or_either (g k && refers k l) _ e (λ h. and_first _ _ (and_second (g k) (refers k l) h)) (any_refers g l ks)
+any_refers : (shim : Option (List ℕ)) (g : Parts → Bool) (l : Parts) (ks : List Parts) → list_any (λ k. g k && refers shim k l) ks ≡ true → is_library l ≡ true
+any_refers shim g l [] e = cc
+any_refers shim g l (k ∷ ks) e = or_either (g k && refers shim k l) _ e (λ h. and_first _ _ (and_second (g k) (refers shim k l) h)) (any_refers shim g l ks)
 
-reached_library : (ms : List Parts) (n : ℕ) (m l : Parts) → reaches ms n m l ≡ true → is_library l ≡ true
-reached_library ms zero m l e = and_first _ _ e
-reached_library ms (suc n) m l e = or_either (refers m l) _ e (λ h. and_first _ _ h) (any_refers (reaches ms n m) l ms)
+reached_library : (shim : Option (List ℕ)) (ms : List Parts) (n : ℕ) (m l : Parts) → reaches shim ms n m l ≡ true → is_library l ≡ true
+reached_library shim ms zero m l e = and_first _ _ e
+reached_library shim ms (suc n) m l e = or_either (refers shim m l) _ e (λ h. and_first _ _ h) (any_refers shim (reaches shim ms n m) l ms)
 
 -- the indexes of the segments of the modules at some places
 abbrev indexes_at : ImageList → List ℕ → List ℕ
@@ -203,17 +203,17 @@ module _ (images : ImageList) (ms : List Parts) (same : modules_of images ≡ ms
       ap (λ (i : ℕ). module_indexes (loaded images i)) e
       ∙ (module_numbers (1 + k) m next ∙ ap (λ (i : ℕ). numbers (get_or (bases_of ms) i 0 + 1) (length m.segments)) back)
 
-  reached_rises : (o : Option Parts) → Rises 4096 (indexes_at images (reached_by ms o))
-  reached_rises None = tt
-  reached_rises (Some m) = libraries_rise images (reaches ms (length ms) m) (reached_library ms (length ms) m) 0 1 ms tied
+  reached_rises : (shim : Option (List ℕ)) (o : Option Parts) → Rises 4096 (indexes_at images (reached_by shim ms o))
+  reached_rises shim None = tt
+  reached_rises shim (Some m) = libraries_rise images (reaches shim ms (length ms) m) (reached_library shim ms (length ms) m) 0 1 ms tied
 
-  lists_rise : (programs : List ℕ) (pid : ℕ) → Rises 4096 (indexes_at images (nth_list (map (libraries_of ms) programs) pid))
-  lists_rise programs pid =
-      subst (λ (o : Option (List ℕ)). Rises 4096 (indexes_at images (list_or_none o))) (sym (nth-map (libraries_of ms) programs pid)) (go (nth programs pid))
+  lists_rise : (shim : Option (List ℕ)) (programs : List ℕ) (pid : ℕ) → Rises 4096 (indexes_at images (nth_list (map (libraries_of shim ms) programs) pid))
+  lists_rise shim programs pid =
+      subst (λ (o : Option (List ℕ)). Rises 4096 (indexes_at images (list_or_none o))) (sym (nth-map (libraries_of shim ms) programs pid)) (go (nth programs pid))
     where
-      go : (o : Option ℕ) → Rises 4096 (indexes_at images (list_or_none (option_map (libraries_of ms) o)))
+      go : (o : Option ℕ) → Rises 4096 (indexes_at images (list_or_none (option_map (libraries_of shim ms) o)))
       go None = tt
-      go (Some place) = reached_rises (nth ms place)
+      go (Some place) = reached_rises shim (nth ms place)
 
   -- the program's segments, its environment, and the libraries' segments
   program_rises : (place : ℕ) (o : Option Parts) → nth ms place ≡ o → ((m : Parts) → o ≡ Some m → IsRunnable m) → (rest : List ℕ) → Rises 4096 rest → (loaded_of images place o).library ≡ false
@@ -296,7 +296,7 @@ module _ (ms : List Parts) (c : Conf) (targets : List Targets) (programs : List 
       let is : s.program ≡ loaded_of l.images place (nth ms place) = at_place l.images ms same place (nth ms place) refl in
       subst (λ (x : Loaded). IsFit (record s { program = x })) (sym is)
       (fit_program l.images ms same place (nth ms place) refl (λ m e. runnable_at ms place all m e) s.libraries s.environment s.command
-      (lists_rise l.images ms same programs pid) (ap (λ (x : Loaded). x.library) (sym is) ∙ program))
+      (lists_rise l.images ms same c.shim programs pid) (ap (λ (x : Loaded). x.library) (sym is) ∙ program))
 
   starts_fit : (pid : ℕ) (ps : List Process) → AreFit (starts_of (outcome ms c targets programs) pid ps)
   starts_fit pid [] = All-nil (λ (s : Start). s.program.library ≡ false → IsFit s)
@@ -313,7 +313,7 @@ module _ (ms : List Parts) (c : Conf) (targets : List Targets) (programs : List 
       let same : modules_of l.images ≡ ms = fitting_modules ms targets shapes in
       let is : (start_of l pid p).program ≡ loaded_of l.images place (nth ms place) = at_place l.images ms same place (nth ms place) refl in
       subst (λ (x : Loaded). Rises 1 (held_indexes (record (start_of l pid p) { program = x }))) (sym is)
-      (program_rises l.images ms same place (nth ms place) refl (λ m e. runnable_at ms place all m e) _ (lists_rise l.images ms same programs pid) (ap (λ (x : Loaded). x.library) (sym is) ∙ program))
+      (program_rises l.images ms same place (nth ms place) refl (λ m e. runnable_at ms place all m e) _ (lists_rise l.images ms same c.shim programs pid) (ap (λ (x : Loaded). x.library) (sym is) ∙ program))
 
   starts_rise : (pid : ℕ) (ps : List Process) → AreRising (starts_of (outcome ms c targets programs) pid ps)
   starts_rise pid [] = All-nil (λ (s : Start). s.program.library ≡ false → Rises 1 (held_indexes s))
@@ -338,8 +338,11 @@ with_programs ms c targets programs = over (region_step (bases_of ms)) ms 0 >>= 
 abbrev with_targets : List Parts → Conf → List Targets → Result LinkedParts LinkFault
 with_targets ms c targets = each (program_of ms) c.process >>= with_programs ms c targets
 
+abbrev with_shim : List Parts → Conf → Option ℕ → Result LinkedParts LinkFault
+with_shim ms c shim = over (module_step ms (bases_of ms) shim c.ordinals) ms [] >>= with_targets ms c
+
 abbrev with_names : List Parts → Conf → Result LinkedParts LinkFault
-with_names ms c = over (module_step ms (bases_of ms) c.ordinals) ms [] >>= with_targets ms c
+with_names ms c = shim_of ms c.shim >>= with_shim ms c
 
 -- all that holds of each outcome holds of what linking gives
 pub of_linked : (P : LinkedParts → Type 0) (ms : List Parts) (c : Conf) (l : LinkedParts) → linked_of ms c ≡ Ok l
@@ -347,10 +350,11 @@ pub of_linked : (P : LinkedParts → Type 0) (ms : List Parts) (c : Conf) (l : L
 unfolding linked_of
 of_linked P ms c l e each_outcome =
     let a = comes (over (name_step ms) ms 0) (λ _. with_names ms c) l e in
-    let b = comes (over (module_step ms (bases_of ms) c.ordinals) ms []) (with_targets ms c) l a.gives in
+    let s = comes (shim_of ms c.shim) (with_shim ms c) l a.gives in
+    let b = comes (over (module_step ms (bases_of ms) s.value c.ordinals) ms []) (with_targets ms c) l s.gives in
     let d = comes (each (program_of ms) c.process) (with_programs ms c b.value) l b.gives in
     let f = comes (over (region_step (bases_of ms)) ms 0) (λ _. Ok (outcome ms c b.value d.value)) l d.gives in
-    subst P (in_ok f.gives) (each_outcome b.value d.value (fitting ms (bases_of ms) c.ordinals ms b.value b.is))
+    subst P (in_ok f.gives) (each_outcome b.value d.value (fitting ms (bases_of ms) s.value c.ordinals ms b.value b.is))
   where
     linked_in : Result LinkedParts LinkFault → LinkedParts
     linked_in (Ok x) = x

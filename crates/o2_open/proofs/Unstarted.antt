@@ -33,8 +33,8 @@ use Rattle.o2_image.specs.Records.{Checking, bytes_of, has_one_place, marks_afte
 use Rattle.o2_image.specs.References.{reference_place, reference_step, reference_word}
 use Rattle.o2_image.specs.Targets.{has_target, is_fixup, is_source, target_kind, width_of}
 use Rattle.o2_dynlink.specs.declared.fault.LinkFault.{LinkFault}
-use Rattle.o2_dynlink.specs.Imports.{base_for, each, entry_or, exported, exported_as, found_at, gate_or, gather, import_name, import_ordinal, import_text, imported, service_called, service_with, target_in}
-use Rattle.o2_dynlink.specs.Linking.{at_place, linked_of, module_step, module_targets, name_step, none_lost, place_or, program_of, region_step}
+use Rattle.o2_dynlink.specs.Imports.{base_for, each, entry_called, entry_or, entry_with, exported, exported_as, found_at, gate_of_built, gate_or, gather, import_name, import_ordinal, import_text, imported, service_called, service_with, target_in}
+use Rattle.o2_dynlink.specs.Linking.{at_place, linked_of, module_step, module_targets, name_step, none_lost, place_or, program_of, region_step, shim_of, shim_or}
 use Rattle.o2_dynlink.specs.Listed.{is_doscalls, is_taken, library_named, lost_reference, module_named}
 use Rattle.o2_dynlink.specs.Selectors.{base_at, bases_of}
 use Rattle.o2_open.specs.Loads.{IsOfStart}
@@ -142,9 +142,9 @@ module_err file =
 
 -- Linking.
 
-gate_err : (o : Option ℕ) (fault : ModuleFault) → NotOfStart fault → IfErr (gate_or o fault) NotOfStart
-gate_err None fault h = h
-gate_err (Some s) fault h = if_err NotOfStart (is_built s) _ _ tt h
+gate_err : (gate : Option Target) (other : Result Target ModuleFault) → IfErr other NotOfStart → IfErr (gate_or gate other) NotOfStart
+gate_err None other h = h
+gate_err (Some gate) other h = tt
 
 entry_err : (base : ℕ) (e : Option (ℕ × ℕ)) (fault : ModuleFault) → NotOfStart fault → IfErr (entry_or base e fault) NotOfStart
 entry_err base None fault h = h
@@ -158,26 +158,26 @@ exported_as_err : (base : ℕ) (name text : List ℕ) (m : Option Parts) → IfE
 exported_as_err base name text None = λ z. z
 exported_as_err base name text (Some m) = entry_err base (option_and_then (λ n. target_of n m.entries) (ordinal_of text m.names.names)) _ (λ z. z)
 
-module _ (ms : List Parts) (bases : List ℕ) (ordinals : List (ℕ × ℕ)) where
-  ordinal_err : (name : List ℕ) (n : ℕ) → IfErr (import_ordinal ms bases ordinals name n) NotOfStart
+module _ (ms : List Parts) (bases : List ℕ) (shim : Option ℕ) (ordinals : List (ℕ × ℕ)) where
+  ordinal_err : (name : List ℕ) (n : ℕ) → IfErr (import_ordinal ms bases shim ordinals name n) NotOfStart
   ordinal_err name n =
-      if_err NotOfStart (is_doscalls name) _ _ (gate_err (service_with ordinals n) _ (λ z. z))
+      if_err NotOfStart (is_doscalls name) _ _ (gate_err (gate_of_built (service_with ordinals n)) _ (entry_err (base_for bases shim) (entry_with n (found_at ms shim)) _ (λ z. z)))
       (exported_err (base_for bases (library_named ms name)) name n (found_at ms (library_named ms name)))
 
-  name_err : (name text : List ℕ) → IfErr (import_name ms bases name text) NotOfStart
+  name_err : (name text : List ℕ) → IfErr (import_name ms bases shim name text) NotOfStart
   name_err name text =
-      if_err NotOfStart (is_doscalls name) _ _ (gate_err (service_called text) _ (λ z. z))
+      if_err NotOfStart (is_doscalls name) _ _ (gate_err (gate_of_built (service_called text)) _ (entry_err (base_for bases shim) (entry_called text (found_at ms shim)) _ (λ z. z)))
       (exported_as_err (base_for bases (library_named ms name)) name text (found_at ms (library_named ms name)))
 
-  text_err : (name : List ℕ) (text : Option (List ℕ)) → IfErr (import_text ms bases name text) NotOfStart
+  text_err : (name : List ℕ) (text : Option (List ℕ)) → IfErr (import_text ms bases shim name text) NotOfStart
   text_err name None = tt
   text_err name (Some text) = name_err name text
 
-  imported_err : (m : Parts) (r : Reloc) (name : Option (List ℕ)) → IfErr (imported ms bases ordinals m r name) NotOfStart
+  imported_err : (m : Parts) (r : Reloc) (name : Option (List ℕ)) → IfErr (imported ms bases shim ordinals m r name) NotOfStart
   imported_err m r None = tt
   imported_err m r (Some name) = if_err NotOfStart (target_kind r == 1) _ _ (ordinal_err name r.second) (text_err name (imported_name m r.second))
 
-  target_err : (base : ℕ) (m : Parts) (r : Reloc) → IfErr (target_in ms bases ordinals base m r) NotOfStart
+  target_err : (base : ℕ) (m : Parts) (r : Reloc) → IfErr (target_in ms bases shim ordinals base m r) NotOfStart
   target_err base m r = if_err NotOfStart (target_kind r == 0) _ _ tt (if_err NotOfStart (target_kind r == 3) _ _ tt (imported_err m r (nth m.references r.first)))
 
 each_err : {X Y F : Type 0} (P : F → Type 0) (f : X → Result Y F) → ((x : X) → IfErr (f x) P) → (xs : List X) → IfErr (each f xs) P
@@ -195,19 +195,27 @@ process_err : (name : List ℕ) (o : Option ℕ) → IfErr (place_or name o) Lin
 process_err name None = λ z. z
 process_err name (Some place) = tt
 
+named_err : (name : List ℕ) (o : Option ℕ) → IfErr (shim_or name o) LinksNotOfStart
+named_err name None = λ z. z
+named_err name (Some place) = tt
+
+shim_err : (ms : List Parts) (o : Option (List ℕ)) → IfErr (shim_of ms o) LinksNotOfStart
+shim_err ms None = tt
+shim_err ms (Some name) = named_err name (library_named ms name)
+
 names_err : (ms : List Parts) (m : Parts) (i : ℕ) → IfErr (name_step ms m i) LinksNotOfStart
 unfolding name_step
 names_err ms m i = if_err LinksNotOfStart (is_taken ms i m.names.own) _ _ (λ z. z) tt
 
-targets_err : (ms : List Parts) (bases : List ℕ) (ordinals : List (ℕ × ℕ)) (base : ℕ) (m : Parts) → IfErr (module_targets ms bases ordinals base m) NotOfStart
+targets_err : (ms : List Parts) (bases : List ℕ) (shim : Option ℕ) (ordinals : List (ℕ × ℕ)) (base : ℕ) (m : Parts) → IfErr (module_targets ms bases shim ordinals base m) NotOfStart
 unfolding module_targets
-targets_err ms bases ordinals base m =
-    bind_err NotOfStart _ _ (lost_err (lost_reference ms m)) (λ a. each_err NotOfStart (each (target_in ms bases ordinals base m)) (each_err NotOfStart (target_in ms bases ordinals base m) (target_err ms bases ordinals base m)) m.relocs)
+targets_err ms bases shim ordinals base m =
+    bind_err NotOfStart _ _ (lost_err (lost_reference ms m)) (λ a. each_err NotOfStart (each (target_in ms bases shim ordinals base m)) (each_err NotOfStart (target_in ms bases shim ordinals base m) (target_err ms bases shim ordinals base m)) m.relocs)
 
-modules_err : (ms : List Parts) (bases : List ℕ) (ordinals : List (ℕ × ℕ)) (m : Parts) (found : List (List (List Target))) → IfErr (module_step ms bases ordinals m found) LinksNotOfStart
+modules_err : (ms : List Parts) (bases : List ℕ) (shim : Option ℕ) (ordinals : List (ℕ × ℕ)) (m : Parts) (found : List (List (List Target))) → IfErr (module_step ms bases shim ordinals m found) LinksNotOfStart
 unfolding module_step
-modules_err ms bases ordinals m found =
-    bind_err LinksNotOfStart _ _ (place_err (length found + 1) _ (targets_err ms bases ordinals (base_at bases (length found + 1)) m)) (λ a. tt)
+modules_err ms bases shim ordinals m found =
+    bind_err LinksNotOfStart _ _ (place_err (length found + 1) _ (targets_err ms bases shim ordinals (base_at bases (length found + 1)) m)) (λ a. tt)
 
 regions_err : (bases : List ℕ) (m : Parts) (i : ℕ) → IfErr (region_step bases m i) LinksNotOfStart
 unfolding region_step
@@ -217,9 +225,10 @@ linked_err : (ms : List Parts) (c : Conf) → IfErr (linked_of ms c) LinksNotOfS
 unfolding linked_of
 linked_err ms c =
     bind_err LinksNotOfStart _ _ (over_err LinksNotOfStart (name_step ms) (names_err ms) ms 0) (λ a.
-    bind_err LinksNotOfStart _ _ (over_err LinksNotOfStart (module_step ms (bases_of ms) c.ordinals) (modules_err ms (bases_of ms) c.ordinals) ms []) (λ targets.
+    bind_err LinksNotOfStart _ _ (shim_err ms c.shim) (λ shim.
+    bind_err LinksNotOfStart _ _ (over_err LinksNotOfStart (module_step ms (bases_of ms) shim c.ordinals) (modules_err ms (bases_of ms) shim c.ordinals) ms []) (λ targets.
     bind_err LinksNotOfStart _ _ (each_err LinksNotOfStart (program_of ms) (λ (p : Process). process_err p.«module» (module_named ms p.«module»)) c.process) (λ programs.
-    bind_err LinksNotOfStart _ _ (over_err LinksNotOfStart (region_step (bases_of ms)) (regions_err (bases_of ms)) ms 0) (λ b. tt))))
+    bind_err LinksNotOfStart _ _ (over_err LinksNotOfStart (region_step (bases_of ms)) (regions_err (bases_of ms)) ms 0) (λ b. tt)))))
 
 -- What is refused, as a function tells it.
 

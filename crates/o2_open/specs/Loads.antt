@@ -3,7 +3,7 @@ use Rattle.std.specs.Prelude.{ℕ, List, [], ◌∷◌, ◌++◌, ◌≡◌, len
 use Rattle.o2_base.specs.declared.faults.Key.TheVariants as key
 use Rattle.o2_base.specs.declared.faults.MachineFault.TheVariants.{Limit}
 use Rattle.o2_base.specs.declared.faults.ModuleFault.{ModuleFault}
-use Rattle.o2_base.specs.declared.faults.ModuleFault.TheVariants.{NoModule, OutOfProfile, NoStack, NoEntry, NoSegment}
+use Rattle.o2_base.specs.declared.faults.ModuleFault.TheVariants.{NoModule, NoShim, OutOfProfile, NoStack, NoEntry, NoSegment}
 use Rattle.o2_base.specs.declared.faults.Which.TheVariants.{FileLength}
 use Rattle.o2_outer.specs.Texts.{Rose}
 use Rattle.o2_words.specs.declared.words.Verb.{Verb}
@@ -60,12 +60,13 @@ machine_in contents name = do
   file ← found name 1048576 (open_fault.BadMachine (Limit key.File)) (contents name)
   under open_fault.BadMachine (setting file)
 
--- the name of the module that a process asks for
+-- the name of the module that a process, or the key `shim`, asks for
 abbrev pub asked : ModuleFault → List ℕ
 asked (NoModule name) = name
+asked (NoShim name) = name
 asked _ = []
 
--- the file that a refusal of linking is about, or the module that a process asks for
+-- the file that a refusal of linking is about, or the module that a process or the key `shim` asks for
 abbrev pub link_refusal : Conf → LinkFault → OpenFault
 link_refusal c f = open_fault.BadModule (if f.file == 0 then asked f.fault else nth_list c.modules f.file) f.fault
 

@@ -21,12 +21,14 @@ use o2_outer::Files;
 use o2_words::Verb;
 use std::alloc::Global;
 
-/// A process asks for a module that isn't listed.
+/// A process, or the key `shim`, asks for a module that isn't listed.
 fn asked_for(alloc: Global, fault: ModuleFault) -> OpenFault
     ensures { Tells result (open_fault.BadModule (asked fault) fault) }
 {
     let name = match &fault {
-        ModuleFault::NoModule(name) => Bytes::from_slice(alloc, name.as_slice()),
+        ModuleFault::NoModule(name) | ModuleFault::NoShim(name) => {
+            Bytes::from_slice(alloc, name.as_slice())
+        }
         _ => Bytes::from_slice(alloc, &[]),
     };
     match name {

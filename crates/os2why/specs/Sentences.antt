@@ -105,6 +105,10 @@ target_text segment number = codes "segment " ++ (decimal segment ++ (codes ": i
 abbrev pub taken_text : List ℕ → List ℕ
 taken_text name = codes "another module has its name, " ++ (shown_text name ++ codes ", or it is named DOSCALLS")
 
+-- why the key `shim` is refused
+abbrev pub shim_text : List ℕ → List ℕ
+shim_text name = codes "no library among the files that are named has the name " ++ (shown_text name ++ codes ", which the key `shim` gives")
+
 -- why a module is refused; of a module that isn't there, whether a process asks for it, and of an ordinal, which service the machine
 -- file has under it
 abbrev pub words_of : Bool → Option ℕ → ModuleFault → List ℕ
@@ -127,6 +131,7 @@ words_of asked listed (fault.NoSelector name) = codes "no selectors are left for
 words_of asked listed fault.NoStack = codes "it has no stack: SS names no writable data, or there is neither a stack segment nor automatic data"
 words_of asked listed fault.NoEntry = codes "it has no entry point: CS:IP lies in no code of it, or past its end, or it is a library"
 words_of asked listed fault.NoSegment = codes "its processes want more segments than the key `segments` allows: raise it"
+words_of asked listed (fault.NoShim name) = shim_text name
 
 -- the number of the reason as os2run tells it, and why
 abbrev pub sentence_of : Bool → Option ℕ → ModuleFault → List ℕ
@@ -148,6 +153,7 @@ form_text key.ProcessArguments = codes "one text without a zero byte"
 form_text key.ProcessEnvironment = codes "an array of texts without zero bytes"
 form_text key.Ordinals = codes "a table with the names of calls, in exactly their letters, each with an ordinal of its own"
 form_text key.Script = codes "an array of texts P:N, without blanks, signs or leading zeros"
+form_text key.Shim = codes "one text without a zero byte"
 
 -- the limits of a key
 abbrev pub limits_text : Key → List ℕ
@@ -165,6 +171,7 @@ limits_text key.ProcessArguments = codes "it has no zero byte"
 limits_text key.ProcessEnvironment = codes "with the module's name and the arguments it makes a segment of at most 65,536 bytes"
 limits_text key.Ordinals = codes "an ordinal is 1 to 65,535"
 limits_text key.Script = codes "there are at most 100,000 words, of a process 1 to 65,535 with 1 to 4,000,000,000 steps"
+limits_text key.Shim = codes "it has 1 to 255 bytes"
 
 -- why a machine file is refused
 abbrev pub machine_words : MachineFault → List ℕ
@@ -178,8 +185,12 @@ abbrev pub machine_sentence : MachineFault → List ℕ
 machine_sentence f = codes "reason " ++ (machine_text f ++ (codes ": " ++ machine_words f))
 
 -- why a module doesn't open, with the file that it is in
+abbrev pub asked_text : ModuleFault → List ℕ
+asked_text (fault.NoShim name) = codes "the key `shim` names no listed library"
+asked_text _ = codes "a process has no module"
+
 abbrev pub module_text : Bool → Option ℕ → List ℕ → ModuleFault → List ℕ
-module_text true listed name f = codes "a process has no module\n  " ++ sentence_of true listed f
+module_text true listed name f = asked_text f ++ (codes "\n  " ++ sentence_of true listed f)
 module_text false listed name f = codes "the module in " ++ (shown_text name ++ (codes " is refused\n  " ++ sentence_of false listed f))
 
 -- why a command isn't opened; of a module that isn't there, whether a process asks for it, and of an ordinal, which service the machine

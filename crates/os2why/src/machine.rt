@@ -11,9 +11,9 @@ use o2_tool::{Shown, print_lines};
 use toml::{Table, Value};
 
 /// The keys of a machine file.
-const TOP_KEYS: [&str; 10] = [
+const TOP_KEYS: [&str; 11] = [
     "memory", "swap", "segments", "budget", "quantum", "avail", "modules", "process", "ordinals",
-    "script",
+    "script", "shim",
 ];
 
 /// The keys of a process.

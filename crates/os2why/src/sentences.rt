@@ -1,7 +1,7 @@
 // Refusals in sentences.
 ghost use Rattle.std.specs.Prelude.{◌≡◌, ◌≤◌, ◌++◌, IfOk, IfSome, codes, string_bytes, None};
 ghost use Rattle.o2_cli.specs.StatusTexts.{module_reason, machine_text, key_text as text_of_key};
-ghost use Rattle.os2why.specs.Sentences.{which_text, unbuilt_text, known_text, usual_text, service_of, in_table, ordinal_text, name_text, lost_text, target_text, taken_text, words_of, sentence_of};
+ghost use Rattle.os2why.specs.Sentences.{which_text, unbuilt_text, known_text, usual_text, service_of, in_table, ordinal_text, name_text, lost_text, asked_text, shim_text, target_text, taken_text, words_of, sentence_of};
 ghost use Rattle.os2why.specs.Sentences.{form_text, limits_text, machine_words, machine_sentence, module_text, cause_text};
 
 use crate::services::{call_name, is_system, service_called, service_of};
@@ -183,6 +183,16 @@ fn taken_sentence(alloc: Global, name: &[u8]) -> Result<String, AllocError>
     format!(in alloc; "another module has its name, {name}, or it is named DOSCALLS")
 }
 
+/// Why the key `shim` is refused.
+fn shim_sentence(alloc: Global, name: &[u8]) -> Result<String, AllocError>
+    ensures { IfOk result (λ s. string_bytes s ≡ shim_text name.now) }
+{
+    let name = Shown(name);
+    format!(in alloc;
+        "no library among the files that are named has the name {name}, which the key `shim` gives"
+    )
+}
+
 /// The number of a reason, as `os2run` tells it.
 fn reason(fault: &ModuleFault) -> &'static str
     ensures { result.now ≡ module_reason fault.now }
@@ -205,6 +215,7 @@ fn reason(fault: &ModuleFault) -> &'static str
         ModuleFault::NoStack => "15",
         ModuleFault::NoEntry => "16",
         ModuleFault::NoSegment => "17",
+        ModuleFault::NoShim(_) => "18",
     }
 }
 
@@ -291,6 +302,7 @@ fn words(
                 "its processes want more segments than the key `segments` allows: raise it"
             )
         }
+        ModuleFault::NoShim(name) => shim_sentence(alloc, name.as_slice()),
     }
 }
 
@@ -313,6 +325,7 @@ pub fn key_text(key: Key) -> &'static str
         Key::ProcessEnvironment => "process.environment",
         Key::Ordinals => "ordinals",
         Key::Script => "script",
+        Key::Shim => "shim",
     }
 }
 
@@ -327,7 +340,7 @@ fn form(key: Key) -> &'static str
         }
         Key::Modules => "an array of texts without zero bytes, as [\"hello.exe\"]",
         Key::Process => "an array of tables, each below a line [[process]]",
-        Key::ProcessModule | Key::ProcessArguments => "one text without a zero byte",
+        Key::ProcessModule | Key::ProcessArguments | Key::Shim => "one text without a zero byte",
         Key::ProcessEnvironment => "an array of texts without zero bytes",
         Key::Ordinals => {
             "a table with the names of calls, in exactly their letters, each with an ordinal of its own"
@@ -359,6 +372,7 @@ fn limits(key: Key) -> &'static str
         Key::Script => {
             "there are at most 100,000 words, of a process 1 to 65,535 with 1 to 4,000,000,000 steps"
         }
+        Key::Shim => "it has 1 to 255 bytes",
     }
 }
 
@@ -411,6 +425,16 @@ fn machine_words(alloc: Global, fault: MachineFault) -> Result<String, AllocErro
     }
 }
 
+/// What is refused where no module's file is: a process, or the key `shim`.
+fn asked_text(fault: &ModuleFault) -> &'static str
+    ensures { result.now ≡ asked_text fault.now }
+{
+    match fault {
+        ModuleFault::NoShim(_) => "the key `shim` names no listed library",
+        _ => "a process has no module",
+    }
+}
+
 /// Why a module doesn't open, with the file that it is in. `asked` says that a process asks for it, and no file has it; the machine
 /// file has the service `listed` under an ordinal that isn't there.
 fn module_text(
@@ -425,7 +449,8 @@ fn module_text(
     let why = sentence(alloc, fault, asked, listed)?;
     let file = Shown(name.as_slice());
     if asked {
-        let text = format!(in alloc; "a process has no module\n  {why}")?;
+        let head = asked_text(fault);
+        let text = format!(in alloc; "{head}\n  {why}")?;
         Ok(text)
     } else {
         let text = format!(in alloc; "the module in {file} is refused\n  {why}")?;

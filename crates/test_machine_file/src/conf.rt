@@ -68,7 +68,7 @@ pub fn machine_file_faults(alloc: Global) -> Result<(), Wrong> {
             count = count.saturating_add(1);
         }
     }
-    want(count == 187, 1)?;
+    want(count == 195, 1)?;
     Ok(())
 }
 
@@ -194,6 +194,7 @@ pub fn a_setting(alloc: Global) -> Result<(), Wrong> {
 /// Whether a setting names none of what may be left out. Some ordinals are those of DosAllocHuge, DosExit and DosWrite.
 fn has_defaults(conf: &Conf) -> bool {
     (conf.avail, conf.script.len(), conf.ordinals.len()) == (0, 0, 31)
+        && conf.shim.is_none()
         && conf.ordinals.get(0).copied() == Some((16, 40))
         && conf.ordinals.get(6).copied() == Some((1, 5))
         && conf.ordinals.get(30).copied() == Some((4, 138))

@@ -10,7 +10,7 @@ use test_fixtures::tell;
 fn main(rt: HostRuntime) -> io::Result<()> {
     let alloc = rt.alloc();
     let answers = [
-        ("187 machine files", conf::machine_file_faults(alloc)),
+        ("195 machine files", conf::machine_file_faults(alloc)),
         (
             "bytes that are no text",
             conf::bytes_that_are_no_text(alloc),

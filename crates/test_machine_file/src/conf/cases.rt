@@ -11,6 +11,7 @@ modules|modules = ['m']
 process|process = [{ module = 'm' }]
 ordinals|
 script|
+shim|
 ";
 
 /// A key, the text that stands in place of its usual line, and what the file is refused for, the first of its faults. The text of
@@ -200,6 +201,14 @@ process: process = [{ module = 'm', environment = ['~n~65530~'] }] => ok
 process: process = [{ module = 'm', environment = ['~n~65531~'] }] => Limit(ProcessEnvironment)
 process: process = [{ module = 'm', environment = [~'abc',~16382~'12'] }] => ok
 process: process = [{ module = 'm', environment = [~'abc',~16382~'123'] }] => Limit(ProcessEnvironment)
+shim: shim = 'SHIM' => ok
+shim: shim = 1 => BadValue(Shim)
+shim: shim = ['SHIM'] => BadValue(Shim)
+shim: shim = \"a\\u0000\" => BadValue(Shim)
+shim: shim = '' => Limit(Shim)
+shim: shim = '~n~255~' => ok
+shim: shim = '~n~256~' => Limit(Shim)
+script: script = [1] / shim = 1 => BadValue(Script)
 script: script = [~'1:1',~100000~] => ok
 script: script = [~'1:1',~100001~] => Limit(Script)
 script: script = [~'1:1',~100001~'01:5'] => BadValue(Script)

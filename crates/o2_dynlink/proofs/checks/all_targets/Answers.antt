@@ -20,4 +20,4 @@ pub returns-clause-exact : goal.returns-clause-exact
 returns-clause-exact c = is_done _ _ _ _ _ c.loop-module-test.false c.loop-module.invariant.so_far
 
 pub returns-clause-fitting : goal.returns-clause-fitting
-returns-clause-fitting c = fitting _ _ _ _ _ (is_done _ _ _ _ _ c.loop-module-test.false c.loop-module.invariant.so_far)
+returns-clause-fitting c = fitting _ _ _ _ _ _ (is_done _ _ _ _ _ c.loop-module-test.false c.loop-module.invariant.so_far)

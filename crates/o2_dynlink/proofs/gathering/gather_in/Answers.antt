@@ -21,7 +21,7 @@ loop-k-init c = record {
 
 pub loop-k-preserved : goal.loop-k-preserved
 loop-k-preserved c =
-    let g = on_list (target_in c.args.scope.now.modules.now c.args.scope.now.bases.now c.args.scope.now.ordinals.now c.args.base c.args.«module».now) c.args.«module».now.relocs in
+    let g = on_list (target_in c.args.scope.now.modules.now c.args.scope.now.bases.now c.args.scope.now.shim c.args.scope.now.ordinals.now c.args.base c.args.«module».now) c.args.«module».now.relocs in
     let lt : c.loop-k.k < length c.args.order.now = omega arith in
     record {
       so_far = goes_on _ c.args.order.now c.loop-k.k 0 _ _ _ lt (rw c.from.ensures at c.in_ok-more.ensures.exact) c.loop-k.invariant.so_far;

@@ -4,5 +4,5 @@ use Rattle.o2_dynlink.proofs.reached.columns_of.Given as goal
 
 abbrev pub invariant-loop-library : goal.invariant-loop-library
 invariant-loop-library l =
-    map (λ c. c.items) l.columns.items ++ map (λ x. map (λ m. refers m x) l.modules) (drop l.library-index l.modules)
-    ≡ map (λ x. map (λ m. refers m x) l.modules) l.modules
+    map (λ c. c.items) l.columns.items ++ map (λ x. map (λ m. refers l.shim m x) l.modules) (drop l.library-index l.modules)
+    ≡ map (λ x. map (λ m. refers l.shim m x) l.modules) l.modules
