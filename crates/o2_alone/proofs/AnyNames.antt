@@ -18,7 +18,7 @@ use Rattle.o2_world.proofs.SegmentMoves.{held_there}
 use Rattle.o2_world.specs.Outcomes.{CallRow, Outcome, ruled}
 use Rattle.o2_world.specs.Calls.{getting_by, giving_by, huge_reallocation_by, naming_by, rows, serviced, sharing_by}
 use Rattle.o2_world.specs.RowLaws.{EachRow, IsQuiet, changes_of}
-use Rattle.o2_world.proofs.Quiet.{changes_come, read_quiet, write_quiet}
+use Rattle.o2_world.proofs.Quiet.{changes_come, alloc_quiet, free_quiet, read_quiet, set_quiet, write_quiet}
 use Rattle.o2_world.proofs.Serving.{by_service}
 use Rattle.o2_alone.specs.Renaming.{Asking}
 use Rattle.o2_world.specs.Effect.{has_trap_flag, answered, single_stepped, effect}
@@ -229,7 +229,13 @@ any_rows = (
                             by_its_ruling _ _ _ giving_is,
                             (
                               by_its_ruling _ _ _ getting_is,
-                              (own _ _ _ _ huge_allocation_is (λ b a. refl), (by_its_ruling _ _ _ huge_reallocation_is, (own _ _ _ _ shift_is (λ b a. refl), (own _ _ _ _ avail_is (λ b a. refl), tt)))),
+                              (
+                                own _ _ _ _ huge_allocation_is (λ b a. refl),
+                                (
+                                  by_its_ruling _ _ _ huge_reallocation_is,
+                                  (own _ _ _ _ shift_is (λ b a. refl), (own _ _ _ _ avail_is (λ b a. refl), (quiet _ set_quiet, (quiet _ alloc_quiet, (quiet _ free_quiet, tt))))),
+                                ),
+                              ),
                             ),
                           ),
                         ),

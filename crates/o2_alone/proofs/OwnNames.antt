@@ -19,7 +19,7 @@ use Rattle.o2_world.specs.Calls.{aliasing_by, allocation_by, avail_by, freeing_b
 use Rattle.o2_world.specs.RowLaws.{EachEntry, IsQuiet, changes_of}
 use Rattle.o2_world.proofs.Serving.{by_entry}
 use Rattle.o2_world.specs.Effect.{has_trap_flag, answered, single_stepped, effect}
-use Rattle.o2_world.proofs.Quiet.{changes_come, read_quiet, write_quiet}
+use Rattle.o2_world.proofs.Quiet.{changes_come, alloc_quiet, free_quiet, read_quiet, set_quiet, write_quiet}
 use Rattle.o2_world.specs.SharedRulings.{marks_under, shared_from}
 use Rattle.o2_world.specs.HugeRulings.{all_bytes, all_dropped, bytes_of, dropped_members, flags_in, free_run, held_in_run, huge_allocation, huge_at, huge_reallocation_of}
 use Rattle.o2_world.specs.HugeRulings.{is_first, is_huge_fault, left_in_run, new_members, other_shares, resized_members, resized_one, run_changes}
@@ -416,7 +416,13 @@ own_rows = (
                             goes_by_others _,
                             (
                               goes_by_others _,
-                              (by_its_ruling _ _ _ _ huge_allocation_is, (by_its_ruling _ _ _ _ huge_reallocation_is, (by_its_ruling _ _ _ _ shift_is, (by_its_ruling _ _ _ _ avail_is, tt)))),
+                              (
+                                by_its_ruling _ _ _ _ huge_allocation_is,
+                                (
+                                  by_its_ruling _ _ _ _ huge_reallocation_is,
+                                  (by_its_ruling _ _ _ _ shift_is, (by_its_ruling _ _ _ _ avail_is, (quiet _ _ set_quiet, (quiet _ _ alloc_quiet, (quiet _ _ free_quiet, tt))))),
+                                ),
+                              ),
                             ),
                           ),
                         ),

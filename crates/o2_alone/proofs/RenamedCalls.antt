@@ -10,13 +10,13 @@ use Rattle.o2_isa.specs.Parts.{put_part}
 use Rattle.o2_isa.specs.View.{View, Hold, bound_in, is_readable, is_writable}
 use Rattle.o2_isa.specs.Pointers.{is_passed, is_for_es, has_range, is_good, range_in, range_of, put_in, put_at_pointer}
 use Rattle.o2_world.specs.declared.types.Slot.{Slot}
-use Rattle.o2_world.specs.declared.types.Slot.TheVariants.{Word, Reads, Writes, Text, ToWord, ToLong, ToWords}
+use Rattle.o2_world.specs.declared.types.Slot.TheVariants.{Word, Reads, Writes, Text, ToWord, ToLong, ToWords, Heap}
 use Rattle.o2_world.specs.World.{Line, Calls}
 use Rattle.o2_world.specs.Known.{Known}
 use Rattle.o2_world.specs.CallParts.{Before, Effect, trapped, word_of, argument, has_arguments, returned}
 use Rattle.o2_world.specs.HugeRulings.{without}
 use Rattle.o2_world.specs.SharedNames.{bytes_at, bytes_from, looked_at, name_most, text_size}
-use Rattle.o2_world.specs.Slots.{Pointer, are_good, pointers_in, put_all, shown_in, targets_in, words_in}
+use Rattle.o2_world.specs.Slots.{Pointer, are_good, is_for_writing, may_have_heap, pointers_in, put_all, shown_in, targets_in, words_in}
 use Rattle.o2_world.specs.Outcomes as outcome
 use Rattle.o2_world.specs.Outcomes.{CallRow, Outcome, come_out, served, worded}
 use Rattle.o2_world.specs.RowLaws.{IsLawful, OutcomeMoves}
@@ -83,6 +83,15 @@ good_same t ok s offset count =
     by_hold None there = refl
     by_hold (Some h) there = ap (λ (bs : List ℕ). ok h.rights && nat_le (offset + count) (length bs)) (t.views.bytes h (there h refl))
 
+pub heap_same : (t : Twins) (s : ℕ) → may_have_heap t.view s ≡ may_have_heap t.one.view s
+heap_same t s =
+    ap (λ (b : Bool). b && is_for_writing (bound_in t.view.held s)) (ap is_passed (probe_renamed t.names t.one.view t.view t.views DataReg s))
+    ∙ ap (λ (b : Bool). is_for_es t.one.view s && b) (ap is_for_writing (bound_renamed t.names t.one.view.held t.view.held t.views.held s) ∙ by_hold (bound_in t.one.view.held s))
+  where
+    by_hold : (x : Option Hold) → is_for_writing (option_map (renamed_hold t.names) x) ≡ is_for_writing x
+    by_hold None = refl
+    by_hold (Some h) = refl
+
 put_same : (t : Twins) (bytes others : ℕ → List ℕ) (s offset : ℕ) (part : List ℕ) → SameBytes t.names t.one.view.held bytes others
     → SameBytes t.names t.one.view.held (put_at_pointer t.one.view.held bytes s offset part) (put_at_pointer t.view.held others s offset part)
 unfolding put_at_pointer
@@ -137,6 +146,7 @@ are_good_same t (Text ∷ ss) a =
 are_good_same t (ToWord ∷ ss) a = each_good t is_writable _ _ _ (pointers_in ss t.view a) (pointers_in ss t.one.view a) (are_good_same t ss a)
 are_good_same t (ToLong ∷ ss) a = each_good t is_writable _ _ _ (pointers_in ss t.view a) (pointers_in ss t.one.view a) (are_good_same t ss a)
 are_good_same t (ToWords count ∷ ss) a = each_good t is_writable _ _ _ (pointers_in ss t.view a) (pointers_in ss t.one.view a) (are_good_same t ss a)
+are_good_same t (Heap ∷ ss) a = are_good_same t ss a
 
 put_all_same : (t : Twins) (ps : List Pointer) (parts : List (List ℕ)) (bytes others : ℕ → List ℕ) → SameBytes t.names t.one.view.held bytes others
     → SameBytes t.names t.one.view.held (put_all t.one.view.held ps parts bytes) (put_all t.view.held ps parts others)

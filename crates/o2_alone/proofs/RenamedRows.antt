@@ -3,14 +3,16 @@ use Rattle.std.proofs.Common.{◌≡◌, refl, sym, ◌∙◌, ap, subst, ℕ, �
 use Rattle.std.specs.Prelude.{Option, Some, None, drop, take}
 use Rattle.o2_world.specs.declared.types.Argument.TheVariants as shown
 use Rattle.o2_world.specs.declared.types.Slot.{Slot}
-use Rattle.o2_world.specs.declared.types.Slot.TheVariants.{Word, Reads, ToWord, ToWords}
+use Rattle.o2_world.specs.declared.types.Slot.TheVariants.{Word, Reads, ToWord, ToWords, Heap}
 use Rattle.o2_world.specs.CallParts.{Before, argument, has_arguments, word_bytes}
 use Rattle.o2_world.specs.Rulings.{Ruling, grants, members}
 use Rattle.o2_world.specs.HugeRulings.{segments_of}
-use Rattle.o2_world.specs.Slots.{are_good, pointers_in, words_in}
+use Rattle.o2_world.specs.HeapRulings.{HeapRuling, giving_back, setting_up, taking}
+use Rattle.o2_world.specs.Slots.{are_good, may_have_heap, pointers_in, words_in}
 use Rattle.o2_world.specs.Outcomes as outcome
 use Rattle.o2_world.specs.Outcomes.{CallRow, Outcome, by_ruling, row, ruled}
 use Rattle.o2_world.specs.Calls.{aliasing_by, allocation_by, avail_by, exiting, freeing_by, huge_allocation_by, huge_reallocation_by, is_console, locking_by, read_slots, reading, reallocation_by}
+use Rattle.o2_world.specs.Calls.{by_heap, heap_bytes, heap_most, on_heap}
 use Rattle.o2_world.specs.Calls.{row_of, rows, served_by, serviced, shift_by, sizing_by, telling_pid, unlocking_by, writing}
 use Rattle.o2_world.specs.RowLaws.{EachEntry, IsLawful}
 use Rattle.o2_world.proofs.Lawful.{lawful}
@@ -18,7 +20,7 @@ use Rattle.o2_world.proofs.Rows.{of_entry}
 use Rattle.o2_world.proofs.SegmentMoves.{held_there}
 use Rattle.o2_alone.specs.Renaming.{Asking, GoesAlike, IsCalledAlike, asked, asking_of, asks_input, asks_members, asks_nothing, asks_others, asks_run, asks_segment}
 use Rattle.o2_alone.specs.Renaming.{new_in_run, reaches_shared, renamed_ruling, some_where}
-use Rattle.o2_alone.proofs.RenamedCalls.{ComesAlike, Does, IsRowAlike, Twins, called_renamed, other, range_same, trapped_renamed}
+use Rattle.o2_alone.proofs.RenamedCalls.{ComesAlike, Does, IsRowAlike, Twins, called_renamed, heap_same, other, range_same, trapped_renamed}
 use Rattle.o2_alone.proofs.RenamedRulings.{aliasing_renamed, allocation_renamed, freeing_renamed, locking_renamed, reallocation_renamed, sizing_renamed, unlocking_renamed}
 use Rattle.o2_alone.proofs.RenamedRuns.{huge_allocation_renamed, huge_reallocation_renamed}
 
@@ -120,6 +122,23 @@ writes name = record {
       (t.input, ap (λ (xs : List ℕ). outcome.Does (record { values = shown.Word (a 2) ∷ []; parts = word_bytes (a 2) ∷ []; changes = []; input = t.input; piece = xs })) (range_same t (a 4) (a 3) (a 2)), λ e. e) refl;
 }
 
+-- a ruling over the heap that both see
+heap_comes : (t : Twins) (ss : List Slot) (w v : Bool) (r q : HeapRuling) → v ≡ w → q ≡ r
+    → ComesAlike t (cond w (by_heap ss t.one r) (outcome.Fails 315 [])) (cond v (by_heap ss (other t) q) (outcome.Fails 315 []))
+heap_comes t ss w v r q writable same =
+    subst (λ (x : Bool). ComesAlike t (cond w (by_heap ss t.one r) (outcome.Fails 315 [])) (cond x (by_heap ss (other t) q) (outcome.Fails 315 []))) (sym writable)
+    (subst (λ (x : HeapRuling). ComesAlike t (cond w (by_heap ss t.one r) (outcome.Fails 315 [])) (cond w (by_heap ss (other t) x) (outcome.Fails 315 []))) (sym same)
+    (either_alike t w _ _ _ _ (either_alike t (r.error == 0) _ _ _ _ (t.input, refl, λ e. e) refl) refl))
+
+by_its_heap : (name : List ℕ) (ss : List Slot) (ruling : (ℕ → ℕ) → List ℕ → HeapRuling)
+    → IsRowAlike asks_nothing (row name (Heap ∷ ss) (λ b a. on_heap (Heap ∷ ss) b (a (words_in ss)) (ruling a)))
+by_its_heap name ss ruling = record {
+  alike = λ t a alike.
+      let s = a (words_in ss) in
+      heap_comes t (Heap ∷ ss) (may_have_heap t.one.view s) (may_have_heap t.view s) (ruling a (heap_bytes t.one s)) (ruling a (heap_bytes (other t) s))
+      (heap_same t s) (ap (ruling a) (range_same t s 0 heap_most));
+}
+
 -- nothing is said of one that goes by what other processes hold
 goes_by_others : (r : CallRow) → IsRowAlike asks_others r
 goes_by_others r = record { alike = λ t a alike. absurd (let no : true ≡ false = alike.alone in cc) }
@@ -157,7 +176,22 @@ alike_rows = (
                             goes_by_others _,
                             (
                               goes_by_others _,
-                              (by_its_ruling _ _ _ _ huge_allocation_alike, (by_its_ruling _ _ _ _ huge_reallocation_alike, (by_its_ruling _ _ _ _ shift_alike, (by_its_ruling _ _ _ _ avail_alike, tt)))),
+                              (
+                                by_its_ruling _ _ _ _ huge_allocation_alike,
+                                (
+                                  by_its_ruling _ _ _ _ huge_reallocation_alike,
+                                  (
+                                    by_its_ruling _ _ _ _ shift_alike,
+                                    (
+                                      by_its_ruling _ _ _ _ avail_alike,
+                                      (
+                                        by_its_heap _ (Word ∷ Word ∷ []) (λ a. setting_up (a 1) (a 0)),
+                                        (by_its_heap _ (ToWord ∷ Word ∷ []) (λ a. taking (a 0)), (by_its_heap _ (Word ∷ Word ∷ []) (λ a. giving_back (a 1) (a 0)), tt)),
+                                      ),
+                                    ),
+                                  ),
+                                ),
+                              ),
                             ),
                           ),
                         ),

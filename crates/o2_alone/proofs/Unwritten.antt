@@ -1,5 +1,5 @@
 -- A step writes no name but those that its process holds as data that can be written.
-use Rattle.std.proofs.Common.{◌≡◌, ◌≢◌, ◌⊎◌, inl, inr, refl, sym, ◌∙◌, ap, ℕ, ◌+◌, ◌≤◌, Bool, true, false, cond, ◌==◌, ◌&&◌, ◌||◌, List, [], ◌∷◌, ◌++◌, length, arith}
+use Rattle.std.proofs.Common.{◌≡◌, ◌≢◌, ◌⊎◌, inl, inr, refl, sym, ◌∙◌, ap, ℕ, ◌+◌, Bool, true, false, cond, ◌==◌, ◌&&◌, ◌||◌, List, [], ◌∷◌, ◌++◌, length, arith}
 use Rattle.std.specs.Prelude.{Option, Some, None, Result, Ok, Err, take, drop, nat_le}
 use Rattle.std.proofs.lemmas.Bool.{eqb-true}
 use Rattle.std.proofs.lemmas.List.{take-append-drop}
@@ -16,13 +16,12 @@ use Rattle.o2_isa.specs.Step.{stepped}
 use Rattle.o2_isa.proofs.Writes.{stepped_writes}
 use Rattle.o2_world.specs.World.{is_live}
 use Rattle.o2_world.specs.CallParts.{Before, Effect}
-use Rattle.o2_world.specs.Slots.{Pointer, are_good, pointers_in, put_all, targets_in}
+use Rattle.o2_world.specs.Slots.{Pointer, put_all, targets_in}
 use Rattle.o2_world.specs.Outcomes.{CallRow, Does, Fails, Leaves, Outcome, come_out}
 use Rattle.o2_world.specs.Calls.{serviced}
-use Rattle.o2_world.specs.RowLaws.{AreFitParts, IsFitOutcome, IsLawful}
+use Rattle.o2_world.specs.RowLaws.{AreFitParts, IsFitOutcome, IsLawful, fits_at}
 use Rattle.o2_world.proofs.Lawful.{lawful}
 use Rattle.o2_world.proofs.Serving.{by_service}
-use Rattle.o2_world.proofs.Sizes.{AllFit, fits, targets_fit}
 use Rattle.o2_world.specs.Effect.{has_trap_flag, answered, single_stepped, effect}
 use Rattle.o2_alone.specs.Renaming.{IsIn}
 use Rattle.o2_alone.proofs.RenamedViews.{bound_is_in}
@@ -63,34 +62,33 @@ module _ (b : Before) (n : ℕ) (unwritten : IsUnwritten b.view.held n) where
   abbrev Keeps : Effect → Type 0
   Keeps e = e.bytes n ≡ b.view.bytes n
 
-  pointer : (bytes : ℕ → List ℕ) (s offset count : ℕ) (part : List ℕ) → fits b.view.held b.view.bytes s offset count ≡ true → ((count == 0) ≡ true → part ≡ [])
+  none_in : (part : List ℕ) → (length part == 0) ≡ true → part ≡ []
+  none_in [] e = refl
+  none_in (x ∷ xs) e = absurd (let none : length (x ∷ xs) ≡ 0 = eqb-true (length (x ∷ xs)) 0 e in omega (arith, none))
+
+  pointer : (bytes : ℕ → List ℕ) (s offset : ℕ) (part : List ℕ) → fits_at b.view.held b.view.bytes s offset (length part) ≡ true
       → put_at_pointer b.view.held bytes s offset part n ≡ bytes n
   unfolding put_at_pointer
-  pointer bytes s offset count part good none = put_elsewhere b.view.held bytes b.view.bytes s offset count part n true unwritten good none
+  pointer bytes s offset part good = put_elsewhere b.view.held bytes b.view.bytes s offset (length part) part n true unwritten good (none_in part)
 
   by_test : (t : Bool) (e f : Effect) → (t ≡ true → Keeps e) → Keeps f → Keeps (cond t e f)
   by_test true e f h k = h refl
   by_test false e f h k = k
 
-  none_in : (part : List ℕ) (count : ℕ) → length part ≤ count → (count == 0) ≡ true → part ≡ []
-  none_in [] count few e = refl
-  none_in (x ∷ xs) count few e = absurd (let none : count ≡ 0 = eqb-true count 0 e in omega (arith, few, none))
-
-  put_all_keeps : (ps : List Pointer) (parts : List (List ℕ)) (bytes : ℕ → List ℕ) → AllFit b.view.held b.view.bytes ps → AreFitParts ps parts
+  put_all_keeps : (ps : List Pointer) (parts : List (List ℕ)) (bytes : ℕ → List ℕ) → AreFitParts b.view.held b.view.bytes ps parts
       → put_all b.view.held ps parts bytes n ≡ bytes n
-  put_all_keeps [] parts bytes all few = refl
-  put_all_keeps (p ∷ ps) [] bytes all few = refl
-  put_all_keeps (p ∷ ps) (part ∷ parts) bytes all few =
-      put_all_keeps ps parts (put_at_pointer b.view.held bytes p.selector p.offset part) all.1 few.1
-      ∙ pointer bytes p.selector p.offset p.count part all.0 (none_in part p.count few.0)
+  put_all_keeps [] parts bytes fit = refl
+  put_all_keeps (p ∷ ps) [] bytes fit = refl
+  put_all_keeps (p ∷ ps) (part ∷ parts) bytes fit =
+      put_all_keeps ps parts (put_at_pointer b.view.held bytes p.selector p.offset part) fit.1 ∙ pointer bytes p.selector p.offset part fit.0
 
-  come_keeps : (r : CallRow) (next : ℕ) (a : ℕ → ℕ) → are_good b.view (pointers_in r.slots b.view a) ≡ true → (o : Outcome) → IsFitOutcome (targets_in r.slots a) o → Keeps (come_out r b next a o)
-  come_keeps r next a good (Fails error values) few = refl
-  come_keeps r next a good (Does d) few = put_all_keeps (targets_in r.slots a) d.parts b.view.bytes (targets_fit b.view r.slots a good) few
-  come_keeps r next a good (Leaves action code) few = refl
+  come_keeps : (r : CallRow) (next : ℕ) (a : ℕ → ℕ) (o : Outcome) → IsFitOutcome b.view (targets_in r.slots a) o → Keeps (come_out r b next a o)
+  come_keeps r next a (Fails error values) fit = refl
+  come_keeps r next a (Does d) fit = put_all_keeps (targets_in r.slots a) d.parts b.view.bytes fit
+  come_keeps r next a (Leaves action code) fit = refl
 
   served_keeps : (service : ℕ) (next : ℕ) → Keeps (serviced b service next)
-  served_keeps service next = by_service Keeps IsLawful b next lawful refl refl (λ r law a good. come_keeps r next a good (r.outcome b a) (law.fits b a)) service
+  served_keeps service next = by_service Keeps IsLawful b next lawful refl refl (λ r law a good. come_keeps r next a (r.outcome b a) (law.fits b a good)) service
 
   single_keeps : (e : Effect) → Keeps e → Keeps (single_stepped b e)
   single_keeps e k = by_test (has_trap_flag b.cpu.flags && is_live e.state) _ e (λ _. k) k

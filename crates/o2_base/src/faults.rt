@@ -116,6 +116,8 @@ pub enum ModuleFault {
     NoEntry,
     /// 17: there are more segments than the machine file allows.
     NoSegment,
+    /// 18: no listed library has this name, which the machine file's `shim` has.
+    NoShim(Bytes),
 }
 
 /// A key of the machine file, as a refusal names it.
@@ -149,6 +151,8 @@ pub enum Key {
     Ordinals,
     /// `script`.
     Script,
+    /// `shim`.
+    Shim,
 }
 
 /// Why a machine file is refused.

@@ -93,6 +93,9 @@ pub fn is_built(number: u16) -> bool
         || number == 17
         || number == 18
         || number == 19
+        || number == 20
+        || number == 21
+        || number == 22
 }
 
 /// The selector of a service's call gate.

@@ -114,7 +114,7 @@ all_go [] g service = λ b next a. refl
 all_go ((k, r) ∷ es) g service = picked (k == service) r (get es service) g.0 (all_go es g.1 service)
 
 rows_go : AllGo rows
-rows_go = ((λ b next a. refl), ((λ b next a. refl), ((λ b next a. refl), ((λ b next a. refl), ((λ b next a. refl), ((λ b next a. refl), ((λ b next a. refl), ((λ b next a. refl), ((λ b next a. refl), ((λ b next a. refl), ((λ b next a. refl), ((λ b next a. refl), ((λ b next a. refl), ((λ b next a. refl), ((λ b next a. refl), ((λ b next a. refl), ((λ b next a. refl), ((λ b next a. refl), ((λ b next a. refl), tt)))))))))))))))))))
+rows_go = ((λ b next a. refl), ((λ b next a. refl), ((λ b next a. refl), ((λ b next a. refl), ((λ b next a. refl), ((λ b next a. refl), ((λ b next a. refl), ((λ b next a. refl), ((λ b next a. refl), ((λ b next a. refl), ((λ b next a. refl), ((λ b next a. refl), ((λ b next a. refl), ((λ b next a. refl), ((λ b next a. refl), ((λ b next a. refl), ((λ b next a. refl), ((λ b next a. refl), ((λ b next a. refl), ((λ b next a. refl), ((λ b next a. refl), ((λ b next a. refl), tt))))))))))))))))))))))
 
 by_words : (service : ℕ) → GoesBy (row_of service)
 unfolding row_of

@@ -13,3 +13,5 @@ pub mod Serving
 pub mod Behind
 pub mod Kept
 pub mod Runs
+pub mod Heaps
+pub mod HeapRows

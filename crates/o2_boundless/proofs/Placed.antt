@@ -99,6 +99,15 @@ valued ss k d n vs ws ps qs h i v p = (
   p ∙ (ap (λ us. us ++ parts_at (get_or ss k d) n) i.1 ∙ sym (parts_more ss k d n h)),
 )
 
+-- the same behind a part that comes first
+pub valued_behind : (ss : List Slot) (k : ℕ) (d : Slot) (n : ℕ) (first : List ℕ) (vs ws : List Argument) (ps qs : List (List ℕ)) → k < length ss
+    → (vs ≡ values_in (take k ss) n) × (ps ≡ first ∷ parts_in (take k ss) n) → ws ≡ vs ++ values_at (get_or ss k d) n → qs ≡ ps ++ parts_at (get_or ss k d) n
+    → (ws ≡ values_in (take (k + 1) ss) n) × (qs ≡ first ∷ parts_in (take (k + 1) ss) n)
+valued_behind ss k d n first vs ws ps qs h i v p = (
+  v ∙ (ap (λ us. us ++ values_at (get_or ss k d) n) i.0 ∙ sym (values_more ss k d n h)),
+  p ∙ (ap (λ us. us ++ parts_at (get_or ss k d) n) i.1 ∙ ap (λ us. first ∷ us) (sym (parts_more ss k d n h))),
+)
+
 -- what the definitions say of slots, said of slots with their places
 
 pub shown_is : (a : ℕ → ℕ) (ss : List Slot) → map (shown_by a) (placed ss) ≡ shown_in ss a

@@ -1,5 +1,6 @@
 -- When a pointer is good, by what its selector is bound to.
-use Rattle.std.proofs.Common.{◌≡◌, ℕ, ◌+◌, Bool, true, false, List, [], Option, Some, None, length, take, drop, refl, ap, sym, ◌∙◌}
+use Rattle.std.proofs.Common.{◌≡◌, ℕ, ◌+◌, Bool, true, false, List, [], Option, Some, None, length, take, drop, refl, ap, sym, ◌∙◌, arith}
+use Rattle.std.proofs.lemmas.Bool.Decides.{nat_tests}
 use Rattle.std.specs.Prelude.{◌==◌, ◌&&◌, ◌||◌, nat_le, if◌then◌else◌}
 use Rattle.o2_isa.specs.declared.cpu.Cpu.{Cpu}
 use Rattle.o2_isa.specs.declared.cpu.Loaded.TheVariants as loaded
@@ -7,6 +8,7 @@ use Rattle.o2_isa.specs.View.{Hold, is_null, is_readable, is_writable, bound_in,
 use Rattle.o2_isa.specs.Pointers.{is_good, is_for_es, is_passed, range_of}
 use Rattle.o2_world.specs.World.{Segment, Held, Process}
 use Rattle.o2_world.specs.Map.{Map, get}
+use Rattle.o2_world.specs.Slots.{is_for_writing, may_have_heap}
 use Rattle.o2_boundless.specs.Effects.{reaches}
 use Rattle.o2_world.specs.Views.{view_of, view_over, hold_of, holds_in, segment_bytes, bytes_in}
 
@@ -77,6 +79,31 @@ pub read_is : (names : Map Segment) (p : Process) (s offset count : ℕ) → is_
 read_is names p s offset count = read_cases names p s offset count (bound_in (holds_in p.held) s) refl
 
 pub ruleset good = (write_is, read_is)
+
+-- a heap may lie there
+all_but_last : (r w : Bool) → (r && w) ≡ (r && (w && true))
+all_but_last true true = refl
+all_but_last true false = refl
+all_but_last false w = refl
+
+no_bytes : (n : ℕ) → nat_le (0 + 0) n ≡ true
+no_bytes n = grind (arith, nat_tests)
+
+heap_cases : (names : Map Segment) (p : Process) (s : ℕ) (b : Option Hold) → bound_in (holds_in p.held) s ≡ b
+    → may_have_heap (view_of names p) s ≡ reaches (bytes_in names) true 0 0 b
+heap_cases names p s None e =
+    ap (λ (o : Option Hold). is_for_es (view_of names p) s && is_for_writing o) e
+    ∙ and-false (is_for_es (view_of names p) s)
+heap_cases names p s (Some h) e =
+    ap (λ (o : Option Hold). is_for_es (view_of names p) s && is_for_writing o) e
+    ∙ ap (λ (b : Bool). b && is_writable h.rights) (es_by (holds_in p.held) (bytes_in names) p.cpu s h e)
+    ∙ all_but_last (is_readable h.rights) (is_writable h.rights)
+    ∙ ap (λ (b : Bool). is_readable h.rights && (is_writable h.rights && b)) (sym (no_bytes (length (bytes_in names h.name))))
+
+pub heap_is : (names : Map Segment) (p : Process) (s : ℕ) → may_have_heap (view_of names p) s ≡ reaches (bytes_in names) true 0 0 (bound_in (holds_in p.held) s)
+heap_is names p s = heap_cases names p s (bound_in (holds_in p.held) s) refl
+
+pub ruleset heaps = (heap_is)
 
 -- ranges
 either : (b : Bool) (xs : List ℕ) → (if b then xs else xs) ≡ xs

@@ -1,9 +1,10 @@
 -- The table's rows, the words of a call and how it comes out, as values of the code.
-use Rattle.std.specs.Prelude.{ℕ, Bool, List, [], ◌∷◌, drop, map, Option, Some, None}
+use Rattle.std.specs.Prelude.{ℕ, ◌==◌, Bool, List, [], ◌∷◌, drop, map, Option, Some, None, if◌then◌else◌}
 use Rattle.o2_isa.specs.View.{View}
 use Rattle.o2_world.specs.declared.types.Argument.{Argument}
 use Rattle.o2_world.specs.declared.types.Slot.{Slot}
 use Rattle.o2_world.specs.CallParts.{Before}
+use Rattle.o2_world.specs.HeapRulings.{HeapRuling, giving_back, setting_up, taking}
 use Rattle.o2_world.specs.Outcomes.{CallRow, Outcome, Done, Does, Fails, Leaves}
 use Rattle.o2_world.specs.Slots.{Pointer, are_good, pointers_at, shown_at, targets_at, words_in}
 use Rattle.o2_boundless.specs.declared.rows.Row.{Row}
@@ -34,6 +35,13 @@ slots_by (Some r) = r.slots
 abbrev pub outcome_by : Option CallRow → Before → (ℕ → ℕ) → Outcome
 outcome_by None b a = Fails 0 []
 outcome_by (Some r) b a = r.outcome b a
+
+-- the ruling of a call on a heap, by its words
+abbrev pub heap_ruling : (service : ℕ) → (ℕ → ℕ) → List ℕ → HeapRuling
+heap_ruling service a bytes =
+    if service == 20 then setting_up (a 1) (a 0) bytes
+    else if service == 21 then taking (a 0) bytes
+    else giving_back (a 1) (a 0) bytes
 
 -- the slots, each with the place of its lowest word
 abbrev pub placed : List Slot → List (Slot × ℕ)

@@ -1,25 +1,33 @@
 // How a call comes out whose words lie in the stack and whose pointers are good.
-ghost use Rattle.std.specs.Prelude.{◌≡◌, ◌∷◌, [], ◌≤◌, ℕ, List, IfOk, length, slice_index, take};
+ghost use Rattle.std.specs.Prelude.{◌≡◌, ◌∷◌, [], ◌≤◌, ℕ, List, IfOk, length, slice_index};
 ghost use Rattle.o2_world.specs.declared.types.Argument.TheVariants.{Word as Shown};
-ghost use Rattle.o2_world.specs.Calls.{is_console, pid_bytes, reading, row_of, telling_pid, writing};
+ghost use Rattle.o2_world.specs.Calls.{by_heap, is_console, on_heap, pid_bytes, reading, row_of, telling_pid, writing};
 ghost use Rattle.o2_world.specs.CallParts.{Before};
 ghost use Rattle.o2_world.specs.Outcomes.{Fails, by_ruling};
 ghost use Rattle.o2_world.specs.Rulings.{Ruling};
-ghost use Rattle.o2_boundless.specs.Outcomes.{outcome_by, outcome_of, slots_by};
+ghost use Rattle.o2_boundless.specs.Outcomes.{heap_ruling, outcome_by, outcome_of, slots_by};
 ghost use Rattle.o2_boundless.specs.Shown.{before_call};
 ghost use Rattle.o2_boundless.specs.Verdicts.{ruling_of};
 
 use crate::changing::Edit;
-use crate::pointing::registers;
+use crate::pointing::{first, registers};
 use crate::rulings::{Verdict, grants};
 use crate::slots::{put_value, word_bytes};
 use crate::{Process, World};
 use o2_base::{Bytes, NoMemory};
+use o2_regions::Answer;
+use o2_subseg::{sub_alloc, sub_free, sub_set};
 use o2_world::{Argument, Slot};
 use std::alloc::Global;
 
 /// The selectors of a run rise by 8, which is 1 shifted left by so many bits.
 const SHIFT: u32 = 3;
+
+/// The most bytes that a heap has.
+const MOST: u16 = 65_532;
+
+/// The selector of a heap isn't that of data that can be written.
+const NO_SEGMENT: u16 = 315;
 
 /// What a call gives that is done: the values of its line, the parts that are written, each behind the next pointer that is for
 /// writing, what changes beside, how many bytes of the input it takes, and its piece for the console.
@@ -109,19 +117,6 @@ fn telling_pid(alloc: Global, number: u16) -> Result<Outcome, NoMemory>
 
 // DosRead(handle, buffer, count, pdone)
 
-/// The first bytes, or all of fewer.
-#[tactic(auto, using(std::proofs::lemmas::List::take_all))]
-fn front(bytes: &[u8], count: u16) -> &[u8]
-    ensures front { result.now ≡ take count bytes.now }
-    ensures most { length result.now ≤ count }
-{
-    if (count as usize) < bytes.len() {
-        &bytes[..count as usize]
-    } else {
-        bytes
-    }
-}
-
 fn reading(alloc: Global, input: &[u8], words: &[u16]) -> Result<Outcome, NoMemory>
     requires { 6 ≤ length words.now }
     ensures { (b : Before) → b.input ≡ input.now → IfOk result (λ x. outcome_of b.input x ≡ reading b (slice_index words.now)) }
@@ -129,7 +124,7 @@ fn reading(alloc: Global, input: &[u8], words: &[u16]) -> Result<Outcome, NoMemo
     if words[5] != 0 {
         return fails(alloc, 6, 0);
     }
-    let got = front(input, words[2]);
+    let got = first(input, words[2]);
     let count = got.len() as u16;
     let values = one_value(alloc, count)?;
     let parts = vec![in alloc;
@@ -153,7 +148,88 @@ fn is_console(handle: u16) -> bool
     handle == 1 || handle == 2
 }
 
+// Heaps inside a segment.
+
+/// What a call on a heap answers, by its words; the bytes are those behind it.
+fn heap_call(service: u16, words: &[u16], bytes: &mut [u8]) -> Answer
+    requires first { 20 ≤ service }
+    requires last { service ≤ 22 }
+    requires words { 6 ≤ length words.now }
+    ensures error { result.error ≡ (heap_ruling service (slice_index words.now) bytes.old).error }
+    ensures value { result.value ≡ (heap_ruling service (slice_index words.now) bytes.old).value }
+    ensures bytes { bytes.new ≡ (heap_ruling service (slice_index words.now) bytes.old).bytes }
+{
+    match service {
+        20 => sub_set(bytes, words[1], words[0]),
+        21 => sub_alloc(bytes, words[0]),
+        22 => sub_free(bytes, words[1], words[0]),
+        _ => unreachable!(),
+    }
+}
+
+/// The same over bytes of its own.
+fn heap_call_on(service: u16, words: &[u16], bytes: &mut Vec<u8>) -> Answer
+    requires first { 20 ≤ service }
+    requires last { service ≤ 22 }
+    requires words { 6 ≤ length words.now }
+    ensures error { result.error ≡ (heap_ruling service (slice_index words.now) bytes.old.items).error }
+    ensures value { result.value ≡ (heap_ruling service (slice_index words.now) bytes.old.items).value }
+    ensures bytes { bytes.new.items ≡ (heap_ruling service (slice_index words.now) bytes.old.items).bytes }
+{
+    heap_call(service, words, bytes.as_mut_slice())
+}
+
+/// A call by what it answers: the heap comes first among what is written.
+fn by_heap(
+    alloc: Global,
+    slots: &[Slot],
+    answer: Answer,
+    bytes: Vec<u8>,
+) -> Result<Outcome, NoMemory>
+    ensures { IfOk result (λ x. (b : Before) → outcome_of b.input x ≡ by_heap slots.now b (record { error = answer.error; value = answer.value; bytes = bytes.items })) }
+{
+    if answer.error != 0 {
+        return Ok(Outcome::Fails(answer.error, Vec::new(alloc)));
+    }
+    let mut values = Vec::new(alloc);
+    let mut parts = vec![in alloc; Bytes::new(bytes)]?;
+    for slot in slots {
+        put_value(alloc, &mut values, &mut parts, *slot, answer.value)?;
+    }
+    Ok(Outcome::Does(Done {
+        values,
+        parts,
+        edits: Vec::new(alloc),
+        read: 0,
+        piece: Vec::new(alloc),
+    }))
+}
+
 impl World {
+    fn on_heap(
+        &self,
+        alloc: Global,
+        number: u16,
+        process: &Process,
+        service: u16,
+        slots: &[Slot],
+        selector: u16,
+        words: &[u16],
+    ) -> Result<Outcome, NoMemory>
+        requires first { 20 ≤ service }
+        requires last { service ≤ 22 }
+        requires words { 6 ≤ length words.now }
+        ensures { IfOk result (λ x. let b = before_call self.now number process.now in
+            outcome_of b.input x ≡ on_heap slots.now b selector (heap_ruling service (slice_index words.now))) }
+    {
+        if !self.may_have_heap(process, selector) {
+            return Ok(Outcome::Fails(NO_SEGMENT, Vec::new(alloc)));
+        }
+        let mut bytes = self.front(alloc, process, selector, MOST)?;
+        let answer = heap_call_on(service, words, &mut bytes);
+        by_heap(alloc, slots, answer, bytes)
+    }
+
     fn writing(
         &self,
         alloc: Global,
@@ -238,6 +314,9 @@ impl World {
             }
             18 => ruled(alloc, slots, Ok(grants(SHIFT, Vec::new(alloc)))),
             19 => ruled(alloc, slots, Ok(grants(self.available(), Vec::new(alloc)))),
+            20 => self.on_heap(alloc, n, process, service, slots, a[2], a),
+            21 => self.on_heap(alloc, n, process, service, slots, a[3], a),
+            22 => self.on_heap(alloc, n, process, service, slots, a[2], a),
             _ => Ok(Outcome::Fails(0, Vec::new(alloc))),
         }
     }

@@ -1,9 +1,10 @@
 // Ranges behind the pointers that a call is given.
-ghost use Rattle.std.specs.Prelude.{◌≡◌, ◌+◌, ℕ, length, take, drop, nat_le, option_map, IfOk, if◌then◌else◌};
+ghost use Rattle.std.specs.Prelude.{◌≡◌, ◌+◌, ◌≤◌, ℕ, length, take, drop, nat_le, option_map, IfOk, if◌then◌else◌};
 ghost use Rattle.std.specs.Option.{option_copied};
 ghost use Rattle.o2_isa.specs.View.{bound_in};
 ghost use Rattle.o2_isa.specs.Pointers.{may_read, may_write, range_of};
 ghost use Rattle.o2_isa.specs.Parts.{put_part};
+ghost use Rattle.o2_world.specs.Slots.{may_have_heap};
 ghost use Rattle.o2_world.specs.Views.{view_of, hold_of, holds_in, segment_bytes, bytes_in, with_bytes};
 ghost use Rattle.o2_boundless.specs.Effects.{written, is_behind, reaches};
 
@@ -86,7 +87,35 @@ fn may_read(
     count == 0 || reaches(names, false, offset, count, bound(&process.held, selector))
 }
 
+/// Whether a heap may lie behind a selector.
+#[tactic(auto, using(crate::proofs::Pointers::heaps))]
+fn may_have_heap(names: &[(u64, Segment)], process: &Process, selector: u16) -> bool
+    ensures { result ≡ may_have_heap (view_of names.now process.now) selector }
+{
+    reaches(names, true, 0, 0, bound(&process.held, selector))
+}
+
 impl World {
+    /// Whether a heap may lie behind a selector of a process.
+    pub(crate) fn may_have_heap(&self, process: &Process, selector: u16) -> bool
+        ensures { result ≡ may_have_heap (view_of self.now.world.names process.now) selector }
+    {
+        may_have_heap(&self.names, process, selector)
+    }
+
+    /// The first bytes of a segment of a process, so many at most.
+    pub(crate) fn front(
+        &self,
+        alloc: Global,
+        process: &Process,
+        selector: u16,
+        most: u16,
+    ) -> Result<Vec<u8>, NoMemory>
+        ensures { IfOk result (λ v. v.items ≡ range_of (holds_in process.now.held) (bytes_in self.now.world.names) selector 0 most) }
+    {
+        front(alloc, &self.names, process, selector, most)
+    }
+
     /// Whether a pointer of a process is good to write through.
     pub(crate) fn may_write(
         &self,
@@ -179,6 +208,42 @@ fn range(
         Some(held) => {
             let bytes = bytes_of(alloc, names, held.name)?;
             part_of(alloc, &bytes, offset, count)
+        }
+    }
+}
+
+/// The first bytes, or all of fewer.
+#[tactic(auto, using(std::proofs::lemmas::List::take_all))]
+pub(crate) fn first(bytes: &[u8], count: u16) -> &[u8]
+    ensures front { result.now ≡ take count bytes.now }
+    ensures most { length result.now ≤ count }
+{
+    if (count as usize) < bytes.len() {
+        &bytes[..count as usize]
+    } else {
+        bytes
+    }
+}
+
+/// The first bytes of a segment, so many at most.
+#[tactic(auto, unfolding(o2_isa::specs::Pointers::range_of), using(crate::proofs::Pointers::ranges))]
+fn front(
+    alloc: Global,
+    names: &[(u64, Segment)],
+    process: &Process,
+    selector: u16,
+    most: u16,
+) -> Result<Vec<u8>, NoMemory>
+    ensures { IfOk result (λ v. v.items ≡ range_of (holds_in process.now.held) (bytes_in names.now) selector 0 most) }
+{
+    if most == 0 {
+        return Ok(Vec::new(alloc));
+    }
+    match bound(&process.held, selector) {
+        None => Ok(Vec::new(alloc)),
+        Some(held) => {
+            let bytes = bytes_of(alloc, names, held.name)?;
+            Ok(Vec::from_slice(alloc, first(&bytes, most))?)
         }
     }
 }

@@ -24,7 +24,7 @@ fn make_row(name: &'static [u8], slots: &'static [Slot]) -> Option<Row>
 pub(crate) fn row_of(service: u16) -> Option<Row>
     ensures { shape_in result ≡ shape_by (row_of service) }
 {
-    use Slot::{Reads, Text, ToLong, ToWord, ToWords, Word, Writes};
+    use Slot::{Heap, Reads, Text, ToLong, ToWord, ToWords, Word, Writes};
     match service {
         1 => make_row(b"DosExit", &[Word, Word]),
         2 => make_row(b"DosGetPID", &[ToWords(3)]),
@@ -45,6 +45,9 @@ pub(crate) fn row_of(service: u16) -> Option<Row>
         17 => make_row(b"DosReallocHuge", &[Word, Word, Word]),
         18 => make_row(b"DosGetHugeShift", &[ToWord]),
         19 => make_row(b"DosMemAvail", &[ToLong]),
+        20 => make_row(b"DosSubSet", &[Heap, Word, Word]),
+        21 => make_row(b"DosSubAlloc", &[Heap, ToWord, Word]),
+        22 => make_row(b"DosSubFree", &[Heap, Word, Word]),
         _ => None,
     }
 }

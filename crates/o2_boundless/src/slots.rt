@@ -18,6 +18,7 @@ fn words_of(slot: Slot) -> u16
 {
     match slot {
         Slot::Word => 1,
+        Slot::Heap => 1,
         Slot::Reads => 2,
         Slot::Writes => 2,
         Slot::Text => 2,
@@ -91,6 +92,7 @@ fn shown_at(slot: Slot, words: &[u16], place: u16) -> Argument
 {
     match slot {
         Slot::Word => Argument::Word(word(words, place as usize)),
+        Slot::Heap => Argument::Word(word(words, place as usize)),
         Slot::Reads => far(words, place),
         Slot::Writes => far(words, place),
         Slot::Text => far(words, place),
@@ -136,6 +138,7 @@ fn put_target(
         Slot::ToWord => targets.push(target)?,
         Slot::ToLong => targets.push(target)?,
         Slot::ToWords(_) => targets.push(target)?,
+        Slot::Heap => targets.push((word(words, low), 0))?,
     }
     Ok(())
 }
@@ -174,6 +177,7 @@ impl World {
         let count = u32::from(word(words, low.saturating_sub(1)));
         match slot {
             Slot::Word => Ok(true),
+            Slot::Heap => Ok(true),
             Slot::Reads => Ok(self.may_read(process, selector, offset, count)),
             Slot::Writes => Ok(self.may_write(process, selector, offset, count)),
             Slot::Text => self.may_read_text(alloc, process, selector, offset),
@@ -260,6 +264,7 @@ pub(crate) fn put_value(
             values.push(Argument::Long((value / 65536) as u16, (value % 65536) as u16))?;
         }
         Slot::ToWords(_) => {}
+        Slot::Heap => {}
     }
     Ok(())
 }

@@ -23,30 +23,30 @@ use Rattle.o2_cli.specs.Statuses.{status_by}
 use Rattle.o2_cli.specs.Checks.{module_line, with_line, module_lines, IsUnstarted, ShowsLines, Checks, ChecksFile}
 use Rattle.o2_cli.proofs.Runs.{load_started}
 
-with_line_behind : (front text : List ℕ) (o : Option Parts) → with_line (front ++ text) o ≡ front ++ with_line text o
-with_line_behind front text None = refl
-with_line_behind front text (Some m) = append_assoc front text (module_line m)
+with_line_behind : (shim : Option (List ℕ)) (front text : List ℕ) (o : Option Parts) → with_line shim (front ++ text) o ≡ front ++ with_line shim text o
+with_line_behind shim front text None = refl
+with_line_behind shim front text (Some m) = append_assoc front text (module_line shim m)
 
-line_more : (ms : List Resolution) (k : ℕ) → module_lines (take (suc k) (map (λ (m : Resolution). m.0) ms)) ≡ with_line (module_lines (take k (map (λ (m : Resolution). m.0) ms))) (option_map (λ (m : Resolution). m.0) (slice_get ms k))
-line_more [] zero = refl
-line_more [] (suc k) = refl
-line_more (x ∷ ms) zero = append-nil (module_line x.0)
-line_more (x ∷ ms) (suc k) =
-    ap (λ (t : List ℕ). module_line x.0 ++ t) (line_more ms k)
-    ∙ sym (with_line_behind (module_line x.0) (module_lines (take k (map (λ (m : Resolution). m.0) ms))) (option_map (λ (m : Resolution). m.0) (slice_get ms k)))
+line_more : (shim : Option (List ℕ)) (ms : List Resolution) (k : ℕ) → module_lines shim (take (suc k) (map (λ (m : Resolution). m.0) ms)) ≡ with_line shim (module_lines shim (take k (map (λ (m : Resolution). m.0) ms))) (option_map (λ (m : Resolution). m.0) (slice_get ms k))
+line_more shim [] zero = refl
+line_more shim [] (suc k) = refl
+line_more shim (x ∷ ms) zero = append-nil (module_line shim x.0)
+line_more shim (x ∷ ms) (suc k) =
+    ap (λ (t : List ℕ). module_line shim x.0 ++ t) (line_more shim ms k)
+    ∙ sym (with_line_behind shim (module_line shim x.0) (module_lines shim (take k (map (λ (m : Resolution). m.0) ms))) (option_map (λ (m : Resolution). m.0) (slice_get ms k)))
 
 nth_next : (ms : List Resolution) (k : ℕ) → nth ms (k + 1) ≡ slice_get ms k
 nth_next ms k = grind arith
 
 -- one place more
-pub lines_next : (images : ImageList) (k : ℕ) (text new : List ℕ) → text ≡ module_lines (take k (modules_of images)) → new ≡ with_line text (option_map (λ (m : Resolution). m.0) (nth images.modules (k + 1)))
-    → new ≡ module_lines (take (k + 1) (modules_of images))
-lines_next images k text new before is =
+pub lines_next : (shim : Option (List ℕ)) (images : ImageList) (k : ℕ) (text new : List ℕ) → text ≡ module_lines shim (take k (modules_of images)) → new ≡ with_line shim text (option_map (λ (m : Resolution). m.0) (nth images.modules (k + 1)))
+    → new ≡ module_lines shim (take (k + 1) (modules_of images))
+lines_next shim images k text new before is =
     is
-    ∙ ap (λ (t : List ℕ). with_line t (option_map (λ (m : Resolution). m.0) (nth images.modules (k + 1)))) before
-    ∙ ap (λ (o : Option Resolution). with_line (module_lines (take k (modules_of images))) (option_map (λ (m : Resolution). m.0) o)) (nth_next images.modules k)
-    ∙ sym (line_more images.modules k)
-    ∙ ap (λ (j : ℕ). module_lines (take j (modules_of images))) (sym (add-one k))
+    ∙ ap (λ (t : List ℕ). with_line shim t (option_map (λ (m : Resolution). m.0) (nth images.modules (k + 1)))) before
+    ∙ ap (λ (o : Option Resolution). with_line shim (module_lines shim (take k (modules_of images))) (option_map (λ (m : Resolution). m.0) o)) (nth_next images.modules k)
+    ∙ sym (line_more shim images.modules k)
+    ∙ ap (λ (j : ℕ). module_lines shim (take j (modules_of images))) (sym (add-one k))
 
 -- Words are one command.
 

@@ -1,11 +1,12 @@
 -- What `check` writes: a line for each module of the machine file, in its order.
-use Rattle.std.specs.Prelude.{◌≡◌, ℕ, List, [], ◌∷◌, ◌++◌, Option, Some, None, Ok, String, codes, decimal, flat_map, length, if◌then◌else◌}
+use Rattle.std.specs.Prelude.{◌≡◌, ℕ, Bool, true, false, List, [], ◌∷◌, ◌++◌, Option, Some, None, Ok, String, codes, decimal, flat_map, length, if◌then◌else◌}
 use Rattle.std.specs.declared.alloc.Global.{Global}
 use Rattle.o2_words.specs.declared.words.Verb.TheVariants.{Check}
 use Rattle.o2_words.specs.Words.{IsCommandFor}
 use Rattle.o2_image.specs.Getters.{is_library, reloc_total}
 use Rattle.o2_image.specs.Parts.{Parts}
 use Rattle.o2_dynlink.specs.Outcome.{modules_of}
+use Rattle.o2_dynlink.specs.Reached.{answers}
 use Rattle.o2_outer.specs.Texts.{Gains, GainsSome, IsPrefix}
 use Rattle.o2_open.specs.declared.session.Session.{Session}
 use Rattle.o2_open.specs.Loads.{Contents, IsOfStart, loaded}
@@ -16,25 +17,30 @@ use Rattle.o2_cli.specs.Top.{Possible}
 abbrev pub kind_text : Parts → List ℕ
 kind_text m = if is_library m then codes " library, " else codes " program, "
 
--- its segments, the relocation records of all of them, and its defined ordinals
-abbrev pub counts_text : Parts → List ℕ
-counts_text m =
-    decimal (length m.segments) ++ codes " segments, " ++ decimal (reloc_total m) ++ codes " relocations, " ++ decimal (length m.entries) ++ codes " entries"
+-- whose the entries are: the module's own, or those of the services' module too
+abbrev pub entries_text : Bool → List ℕ
+entries_text false = codes " entries"
+entries_text true = codes " entries for DOSCALLS"
 
-abbrev pub module_line : Parts → List ℕ
-module_line m = m.names.own ++ kind_text m ++ counts_text m ++ 10 ∷ []
+-- its segments, the relocation records of all of them, and its defined ordinals
+abbrev pub counts_text : Option (List ℕ) → Parts → List ℕ
+counts_text shim m =
+    decimal (length m.segments) ++ codes " segments, " ++ decimal (reloc_total m) ++ codes " relocations, " ++ decimal (length m.entries) ++ entries_text (answers shim m)
+
+abbrev pub module_line : Option (List ℕ) → Parts → List ℕ
+module_line shim m = m.names.own ++ kind_text m ++ counts_text shim m ++ 10 ∷ []
 
 -- one line more, where there is a module
-abbrev pub with_line : List ℕ → Option Parts → List ℕ
-with_line text None = text
-with_line text (Some m) = text ++ module_line m
+abbrev pub with_line : Option (List ℕ) → List ℕ → Option Parts → List ℕ
+with_line shim text None = text
+with_line shim text (Some m) = text ++ module_line shim m
 
-abbrev pub module_lines : List Parts → List ℕ
-module_lines ms = flat_map module_line ms
+abbrev pub module_lines : Option (List ℕ) → List Parts → List ℕ
+module_lines shim ms = flat_map (module_line shim) ms
 
 -- the lines of all modules that were linked
 abbrev pub session_lines : Session → List ℕ
-session_lines s = module_lines (modules_of s.linked.images)
+session_lines s = module_lines s.conf.shim (modules_of s.linked.images)
 
 -- what the console gains for a session, by the status: the lines, or a front of them
 abbrev pub ShowsLines : Session → (console_old console_new : Option (List ℕ)) → Status → Type 0

@@ -39,6 +39,7 @@ key_text key.ProcessArguments = codes "process.arguments"
 key_text key.ProcessEnvironment = codes "process.environment"
 key_text key.Ordinals = codes "ordinals"
 key_text key.Script = codes "script"
+key_text key.Shim = codes "shim"
 
 -- the number of a reason, and its key
 abbrev pub machine_text : MachineFault → List ℕ
@@ -65,6 +66,7 @@ module_reason (module_fault.NoSelector name) = codes "14"
 module_reason module_fault.NoStack = codes "15"
 module_reason module_fault.NoEntry = codes "16"
 module_reason module_fault.NoSegment = codes "17"
+module_reason (module_fault.NoShim name) = codes "18"
 
 abbrev pub line_of : List ℕ → List ℕ
 line_of text = codes "os2run: " ++ text ++ 10 ∷ []

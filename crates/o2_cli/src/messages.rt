@@ -45,6 +45,7 @@ fn key_name(key: Key) -> &'static [u8]
         Key::ProcessEnvironment => b"process.environment",
         Key::Ordinals => b"ordinals",
         Key::Script => b"script",
+        Key::Shim => b"shim",
     }
 }
 
@@ -70,6 +71,7 @@ fn reason(fault: &ModuleFault) -> &'static [u8]
         ModuleFault::NoStack => b"15",
         ModuleFault::NoEntry => b"16",
         ModuleFault::NoSegment => b"17",
+        ModuleFault::NoShim(_) => b"18",
     }
 }
 

@@ -89,7 +89,7 @@ fn check_session<C: Sink>(alloc: Global, session: &Session, console: &mut C) -> 
     ensures same_console { OnUnrun result (console.new ≡ console.old) }
     ensures sink_fault { OnSinkFault result (Rose (C.faults console.old) (C.faults console.new)) }
 {
-    let Ok(text) = lines(alloc, &session.linked) else {
+    let Ok(text) = lines(alloc, &session.conf.shim, &session.linked) else {
         return Status::NoMemory;
     };
     match console.put(text.as_slice()) {

@@ -4,12 +4,12 @@ use Rattle.o2_isa.specs.View.{View, is_readable, is_writable}
 use Rattle.o2_world.specs.declared.types.Argument.{Argument}
 use Rattle.o2_world.specs.declared.types.Argument.TheVariants as shown
 use Rattle.o2_world.specs.declared.types.Slot.{Slot}
-use Rattle.o2_world.specs.declared.types.Slot.TheVariants.{Word, Reads, Writes, Text, ToWord, ToLong, ToWords}
+use Rattle.o2_world.specs.declared.types.Slot.TheVariants.{Word, Reads, Writes, Text, ToWord, ToLong, ToWords, Heap}
 use Rattle.o2_world.specs.Calls.{Before, argument, has_arguments, trapped}
 use Rattle.o2_world.specs.Outcomes.{CallRow, Outcome, Fails, Does, Leaves, come_out, served, worded}
 use Rattle.o2_world.specs.SharedNames.{text_size}
-use Rattle.o2_world.specs.Slots.{Pointer, are_good, pointers_at, pointers_in, shown_at, shown_in, targets_at, targets_in, words_in, words_of}
-use Rattle.o2_run.specs.Room.{call_names, pointed}
+use Rattle.o2_world.specs.Slots.{Pointer, are_good, heaps_at, heaps_in, pointers_at, pointers_in, shown_at, shown_in, targets_at, targets_in, words_in, words_of}
+use Rattle.o2_run.specs.Room.{call_names, heaped, pointed, worded_names}
 use Rattle.o2_gate.specs.Given.{AreSame}
 use Rattle.o2_gate.proofs.Looks.{Looks}
 
@@ -32,6 +32,7 @@ module _ (a w : ℕ → ℕ) where
   shown_there ToWord n same = by_three n same (λ x y z. shown.Far x y)
   shown_there ToLong n same = by_three n same (λ x y z. shown.Far x y)
   shown_there (ToWords count) n same = by_three n same (λ x y z. shown.Far x y)
+  shown_there Heap n same = ap shown.Word (same n (omega arith))
 
   targets_there : (s : Slot) (n : ℕ) → AreSame (n + words_of s) a w → targets_at s a n ≡ targets_at s w n
   targets_there Word n same = refl
@@ -41,6 +42,7 @@ module _ (a w : ℕ → ℕ) where
   targets_there ToWord n same = by_three n same (λ x y z. aimed (λ s o. 2) is_writable x y z)
   targets_there ToLong n same = by_three n same (λ x y z. aimed (λ s o. 4) is_writable x y z)
   targets_there (ToWords count) n same = by_three n same (λ x y z. aimed (λ s o. 2 * count) is_writable x y z)
+  targets_there Heap n same = ap (λ (x : ℕ). record { selector = x; offset = 0; count = 1; good = is_writable } ∷ []) (same n (omega arith))
 
   pointers_there : (v : View) (s : Slot) (n : ℕ) → AreSame (n + words_of s) a w → pointers_at s v a n ≡ pointers_at s v w n
   pointers_there v Word n same = refl
@@ -50,6 +52,17 @@ module _ (a w : ℕ → ℕ) where
   pointers_there v ToWord n same = by_three n same (λ x y z. aimed (λ s o. 2) is_writable x y z)
   pointers_there v ToLong n same = by_three n same (λ x y z. aimed (λ s o. 4) is_writable x y z)
   pointers_there v (ToWords count) n same = by_three n same (λ x y z. aimed (λ s o. 2 * count) is_writable x y z)
+  pointers_there v Heap n same = refl
+
+  heaps_there : (s : Slot) (n : ℕ) → AreSame (n + words_of s) a w → heaps_at s a n ≡ heaps_at s w n
+  heaps_there Word n same = refl
+  heaps_there Reads n same = refl
+  heaps_there Writes n same = refl
+  heaps_there Text n same = refl
+  heaps_there ToWord n same = refl
+  heaps_there ToLong n same = refl
+  heaps_there (ToWords count) n same = refl
+  heaps_there Heap n same = ap (λ (x : ℕ). record { selector = x; offset = 0; count = 1; good = is_writable } ∷ []) (same n (omega arith))
 
   here : (s : Slot) (n : ℕ) → AreSame (words_of s + n) a w → AreSame (n + words_of s) a w
   here s n same i lt = same i (omega (arith, lt))
@@ -74,6 +87,12 @@ module _ (a w : ℕ → ℕ) where
   pointers_same v (s ∷ ss) same =
       ap (λ (xs : List Pointer). xs ++ pointers_in ss v a) (pointers_there v s (words_in ss) (here s (words_in ss) same))
       ∙ ap (λ (xs : List Pointer). pointers_at s v w (words_in ss) ++ xs) (pointers_same v ss (fewer s (words_in ss) same))
+
+  pub heaps_same : (ss : List Slot) → AreSame (words_in ss) a w → heaps_in ss a ≡ heaps_in ss w
+  heaps_same [] same = refl
+  heaps_same (s ∷ ss) same =
+      ap (λ (xs : List Pointer). xs ++ heaps_in ss a) (heaps_there s (words_in ss) (here s (words_in ss) same))
+      ∙ ap (λ (xs : List Pointer). heaps_at s w (words_in ss) ++ xs) (heaps_same ss (fewer s (words_in ss) same))
 
   come_out_same : (r : CallRow) (b : Before) (next : ℕ) (o : Outcome) → AreSame (words_in r.slots) a w → come_out r b next a o ≡ come_out r b next w o
   come_out_same r b next (Fails error values) same = rw (shown_same r.slots same) refl
@@ -103,14 +122,19 @@ module _ (r : CallRow) (b : Before) (next : ℕ) (w : ℕ → ℕ) (has : has_ar
       ∙ come_out_same (argument b.view b.cpu) w r b next (r.outcome b (argument b.view b.cpu)) same
       ∙ ap (come_out r b next w) (looks b (argument b.view b.cpu) w same)
 
-  pub names_are : call_names b (Some r) ≡ pointed b.view pointers
+  -- the names of its pointers, and where these are good those of its heaps
+  abbrev pub names_by : Bool → List Pointer → List Pointer → List ℕ
+  names_by good ps hs = pointed b.view ps ++ cond good (heaped b.view hs) []
+
+  pub names_are : call_names b (Some r) ≡ worded_names b.view r w
   names_are =
-      ap (λ (c : Bool). cond c (pointed b.view (pointers_in r.slots b.view (argument b.view b.cpu))) []) has
-      ∙ ap (pointed b.view) (pointers_same (argument b.view b.cpu) w b.view r.slots same)
+      ap (λ (c : Bool). cond c (worded_names b.view r (argument b.view b.cpu)) []) has
+      ∙ ap (λ (ps : List Pointer). names_by (are_good b.view ps) ps (heaps_in r.slots (argument b.view b.cpu))) (pointers_same (argument b.view b.cpu) w b.view r.slots same)
+      ∙ ap (λ (hs : List Pointer). names_by (are_good b.view pointers) pointers hs) (heaps_same (argument b.view b.cpu) w r.slots same)
 
 pub served_few : (r : CallRow) (b : Before) (next : ℕ) → has_arguments b.view b.cpu (words_in r.slots) ≡ false → served r b next ≡ trapped b 12
 unfolding served
 served_few r b next few = ap (λ (c : Bool). cond c (worded r b next (argument b.view b.cpu)) (trapped b 12)) few
 
 pub names_few : (r : CallRow) (b : Before) → has_arguments b.view b.cpu (words_in r.slots) ≡ false → call_names b (Some r) ≡ []
-names_few r b few = ap (λ (c : Bool). cond c (pointed b.view (pointers_in r.slots b.view (argument b.view b.cpu))) []) few
+names_few r b few = ap (λ (c : Bool). cond c (worded_names b.view r (argument b.view b.cpu)) []) few

@@ -92,13 +92,13 @@ miss_seen v s t some e = miss_hold v s t (found v s) refl (rw some at e)
 
 -- Tests of one pointer, by what was found.
 
-none_named : (v : View) → ArePresent v []
+pub none_named : (v : View) → ArePresent v []
 none_named v n e = absurd (cc)
 
 one_name : (n m : ℕ) → is_in n (m ∷ []) ≡ true → m ≡ n
 one_name n m e = grind arith
 
-one_named : (v : View) (m : ℕ) → v.present m ≡ true → ArePresent v (m ∷ [])
+pub one_named : (v : View) (m : ℕ) → v.present m ≡ true → ArePresent v (m ∷ [])
 one_named v m here n e = subst (λ (k : ℕ). v.present k ≡ true) (one_name n m e) here
 
 names_at : (v : View) (m : ℕ) (a b : Bool) → v.present m ≡ true → ArePresent v (cond a (m ∷ cond b [] []) [])

@@ -1,7 +1,7 @@
 -- Each pointer of a call on segments is for some bytes.
 use Rattle.std.proofs.Common.{◌≡◌, ℕ, ◌≤◌, ◌==◌, ◌&&◌, Bool, true, false, List, [], ◌∷◌, ap, ◌∙◌, refl, arith}
 use Rattle.o2_world.specs.declared.types.Slot.{Slot}
-use Rattle.o2_world.specs.declared.types.Slot.TheVariants.{Word, Reads, Writes, Text, ToWord, ToLong, ToWords}
+use Rattle.o2_world.specs.declared.types.Slot.TheVariants.{Word, Reads, Writes, Text, ToWord, ToLong, ToWords, Heap}
 use Rattle.o2_world.specs.Calls.{row_of}
 use Rattle.o2_world.specs.Slots.{Pointer}
 use Rattle.o2_gate.specs.declared.arguments.Arguments.{Arguments}
@@ -28,6 +28,7 @@ is_sized Text = true
 is_sized ToWord = true
 is_sized ToLong = true
 is_sized (ToWords count) = false
+is_sized Heap = true
 
 abbrev are_sized : List Slot → Bool
 are_sized [] = true
@@ -54,6 +55,7 @@ some_in (s ∷ ss) looked a some e = go s (first (is_sized s) (are_sized ss) e) 
     go ToWord e rest = (refl, rest)
     go ToLong e rest = (refl, rest)
     go (ToWords count) e rest = absurd (let z : false ≡ true = e in cc)
+    go Heap e rest = rest
 
 record IsSized (q : SegmentArguments) : Type 0 where
   sized : are_sized (slots_by (row_of (request_of q).service)) ≡ true

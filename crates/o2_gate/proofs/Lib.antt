@@ -9,6 +9,7 @@ pub mod Writing
 pub mod MovedLines
 pub mod Walks
 pub mod Looks
+pub mod Heaps
 pub mod Agree
 pub mod Gathered
 pub mod Asks
@@ -17,4 +18,5 @@ pub mod Puts
 pub mod Takes
 pub mod Lines
 pub mod Serves
+pub mod HeapCalls
 pub mod Counts

@@ -56,7 +56,7 @@ module _ (v : View) (w : ℕ → ℕ) (ss : List Slot) (test : IsGoodTest v (poi
   read_done is = last _ _ (tested v w is test)
 
 -- What a call that comes out so does goes by the name and the slots of its row alone.
-come_out_row : (r : CallRow) (outcome : Before → (ℕ → ℕ) → Outcome) (b : Before) (next : ℕ) (a : ℕ → ℕ) (o : Outcome)
+pub come_out_row : (r : CallRow) (outcome : Before → (ℕ → ℕ) → Outcome) (b : Before) (next : ℕ) (a : ℕ → ℕ) (o : Outcome)
     → come_out r b next a o ≡ come_out (row r.name r.slots outcome) b next a o
 come_out_row r outcome b next a (Fails error values) = refl
 come_out_row r outcome b next a (Does d) = refl

@@ -14,7 +14,7 @@ last a b c e = grind arith
 le_of : (n m : ℕ) → nat_le n m ≡ true → n ≤ m
 le_of n m e = grind arith
 
-whole_at : (f : Filling) (v : View) (h : Hold) → v.present h.name ≡ true → (whole f v).bytes h.name ≡ v.bytes h.name
+pub whole_at : (f : Filling) (v : View) (h : Hold) → v.present h.name ≡ true → (whole f v).bytes h.name ≡ v.bytes h.name
 whole_at f v h here = ap (λ (b : Bool). cond b (v.bytes h.name) (v.hidden.away h.name f.blocks)) here
 
 -- a range that is ready is that of the boundless machine

@@ -7,15 +7,16 @@ use Rattle.o2_isa.specs.View.{View, Hold, found, bound_in, is_null, is_readable,
 use Rattle.o2_isa.specs.Steps.{selector}
 use Rattle.o2_isa.specs.Sizes.{IsSized}
 use Rattle.o2_isa.specs.Pointers.{is_passed, is_for_es}
-use Rattle.o2_gate.specs.Pointed.{only, pointer, writes_to, lies_within, allows, IsGoodTest, IsBadTest, IsMissedTest}
+use Rattle.o2_world.specs.Slots.{is_for_writing}
+use Rattle.o2_gate.specs.Pointed.{only, pointer, lies_within, allows, IsGoodTest, IsBadTest, IsMissedTest}
 use Rattle.o2_gate.proofs.Checks.{es_boundless, IsSeen, done_seen, miss_seen, nothing, unfit, fits, exceeds, misses}
 
 -- What a selector that isn't null names.
 
-found_bound : (v : View) (s : ℕ) (h : Hold) → is_null s ≡ false → found v s ≡ Some h → bound_in v.held s ≡ Some h
+pub found_bound : (v : View) (s : ℕ) (h : Hold) → is_null s ≡ false → found v s ≡ Some h → bound_in v.held s ≡ Some h
 found_bound v s h some e = ap (λ (n : Bool). cond n None (found v s)) some ∙ e
 
-null_bound : (n : Bool) (o : Option Hold) (h : Hold) → n ≡ true → cond n None o ≡ Some h → false ≡ true
+pub null_bound : (n : Bool) (o : Option Hold) (h : Hold) → n ≡ true → cond n None o ≡ Some h → false ≡ true
 null_bound true o h null e = absurd (cc)
 null_bound false o h null e = null
 
@@ -54,7 +55,7 @@ module _ (v : View) (writes : Bool) (s o n : ℕ) where
       allowed_at z allowed =
           sym (good_rights writes is_inside seen.hold seen.readable)
           ∙ ap (λ (k : ℕ). (not writes || is_writable seen.hold.rights) && nat_le (o + n) k) (sized.bytes seen.hold.name seen.at_hand)
-          ∙ subst (λ (x : Option Hold). ((not writes || writes_to x) && lies_within v o n x) ≡ z) seen.found_it allowed
+          ∙ subst (λ (x : Option Hold). ((not writes || is_for_writing x) && lies_within v o n x) ≡ z) seen.found_it allowed
 
       pub within_test : allows writes v s o n ≡ true → IsGoodTest v (only (pointer writes s o n))
       within_test allowed =

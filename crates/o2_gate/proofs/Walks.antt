@@ -6,7 +6,7 @@ use Rattle.o2_base.specs.declared.selector.Selector.{Selector}
 use Rattle.o2_isa.specs.View.{View, Filling, Hold, is_readable, is_writable}
 use Rattle.o2_isa.specs.Pointers.{is_ready, put_at_pointer}
 use Rattle.o2_world.specs.declared.types.Slot.{Slot}
-use Rattle.o2_world.specs.declared.types.Slot.TheVariants.{Word, Reads, Writes, Text, ToWord, ToLong, ToWords}
+use Rattle.o2_world.specs.declared.types.Slot.TheVariants.{Word, Reads, Writes, Text, ToWord, ToLong, ToWords, Heap}
 use Rattle.o2_world.specs.SharedNames.{looked_at, name_most, text_size}
 use Rattle.o2_world.specs.Slots.{Pointer, parts_at, parts_in, pointer_at, pointers_at, pointers_in, put_all, targets_at, targets_in, words_in, words_of}
 use Rattle.o2_gate.specs.declared.pointer.Pointed.{Pointed}
@@ -14,7 +14,7 @@ use Rattle.o2_gate.specs.declared.text.TextArgument.{TextArgument}
 use Rattle.o2_gate.specs.Befores.{boundless}
 use Rattle.o2_gate.specs.Given.{IsTextAt, IsTextIn, pointers_by}
 use Rattle.o2_gate.specs.Pointed.{IsBadTest, IsGoodTest, IsMissedTest, Pointers, Tells, are_ready, only, pointer}
-use Rattle.o2_gate.specs.Replies.{FitsAt}
+use Rattle.o2_gate.specs.Replies.{FitsAt, FitsIn}
 use Rattle.o2_gate.specs.Small.{texts_at, texts_in}
 use Rattle.o2_gate.specs.Targets.{target_at, target_in}
 use Rattle.o2_gate.proofs.Checks.{bad_first, missed_first, then_tells}
@@ -70,6 +70,7 @@ module _ (v : View) (a : ℕ → ℕ) (ss : List Slot) where
   then_slot ToWord r x y = then_tells v (fixed 2 is_writable) rest r x y
   then_slot ToLong r x y = then_tells v (fixed 4 is_writable) rest r x y
   then_slot (ToWords count) r x y = then_tells v (fixed (2 * count) is_writable) rest r x y
+  then_slot Heap r x y = y
 
   pub bad_slot : (s : Slot) → IsBadTest v (here s) → IsBadTest v (pointers_by (s ∷ ss) a)
   bad_slot Word x = absurd (nothing_bad x)
@@ -79,6 +80,7 @@ module _ (v : View) (a : ℕ → ℕ) (ss : List Slot) where
   bad_slot ToWord x = bad_first v (fixed 2 is_writable) rest x
   bad_slot ToLong x = bad_first v (fixed 4 is_writable) rest x
   bad_slot (ToWords count) x = bad_first v (fixed (2 * count) is_writable) rest x
+  bad_slot Heap x = absurd (nothing_bad x)
 
   pub missed_slot : (s : Slot) (sel : Selector) → IsMissedTest v sel (here s) → IsMissedTest v sel (pointers_by (s ∷ ss) a)
   missed_slot Word sel x = absurd (nothing_missed sel x)
@@ -88,6 +90,7 @@ module _ (v : View) (a : ℕ → ℕ) (ss : List Slot) where
   missed_slot ToWord sel x = missed_first v (fixed 2 is_writable) rest sel x
   missed_slot ToLong sel x = missed_first v (fixed 4 is_writable) rest sel x
   missed_slot (ToWords count) sel x = missed_first v (fixed (2 * count) is_writable) rest sel x
+  missed_slot Heap sel x = absurd (nothing_missed sel x)
 
   -- The text that was read last is that behind the only pointer to one.
   text_there : (s : Slot) (t new : TextArgument) → texts_at s + texts_in ss ≤ 1 → (texts_in ss ≡ 0 → t ≡ new) → IsTextAt v a new s place → IsTextAt v a t s place
@@ -98,6 +101,7 @@ module _ (v : View) (a : ℕ → ℕ) (ss : List Slot) where
   text_there ToWord t new one same is = tt
   text_there ToLong t new one same is = tt
   text_there (ToWords count) t new one same is = tt
+  text_there Heap t new one same is = tt
 
   pub text_step : (s : Slot) (all : List Slot) (old new : TextArgument) → texts_at s + texts_in ss ≤ 1 → (texts_at s ≡ 0 → new ≡ old) → IsTextAt v a new s place
       → ((t : TextArgument) → (texts_at s + texts_in ss ≡ 0 → t ≡ old) → IsTextIn v a t (s ∷ ss) → IsTextIn v a t all)
@@ -114,6 +118,7 @@ aimed_there v f a t Text n is = ap (λ (k : ℕ). pointer false (a (n + 1)) (a n
 aimed_there v f a t ToWord n is = refl
 aimed_there v f a t ToLong n is = refl
 aimed_there v f a t (ToWords count) n is = refl
+aimed_there v f a t Heap n is = refl
 
 pub aimed : (v : View) (f : Filling) (a : ℕ → ℕ) (t : TextArgument) (ss : List Slot) → IsTextIn v a t ss → pointers_in ss (boundless f v) a ≡ target_in ss (looked_at (name_most + 1) t.bytes) a
 aimed v f a t [] is = refl
@@ -144,6 +149,7 @@ module _ (v : View) (a : ℕ → ℕ) (ss : List Slot) where
   ready_here ToWord e = first_of _ _ e
   ready_here ToLong e = first_of _ _ e
   ready_here (ToWords count) e = first_of _ _ e
+  ready_here Heap e = first_of _ _ e
 
   pub ready_behind_slot : (s : Slot) → are_ready v (targets_in (s ∷ ss) a) ≡ true → are_ready v behind ≡ true
   ready_behind_slot Word e = e
@@ -153,6 +159,7 @@ module _ (v : View) (a : ℕ → ℕ) (ss : List Slot) where
   ready_behind_slot ToWord e = last_of _ _ e
   ready_behind_slot ToLong e = last_of _ _ e
   ready_behind_slot (ToWords count) e = last_of _ _ e
+  ready_behind_slot Heap e = last_of _ _ e
 
   -- the part of a value goes behind its own pointer
   pub put_slot : (s : Slot) (value : ℕ) (held : ℕ → Option Hold) (bytes : ℕ → List ℕ) → FitsAt s value
@@ -165,6 +172,7 @@ module _ (v : View) (a : ℕ → ℕ) (ss : List Slot) where
   put_slot ToWord value held bytes fits = refl
   put_slot ToLong value held bytes fits = refl
   put_slot (ToWords count) value held bytes fits = absurd fits
+  put_slot Heap value held bytes fits = absurd fits
 
 pub put_all_over : (held : ℕ → Option Hold) (ps : List Pointer) (parts : List (List ℕ)) (f g : ℕ → List ℕ) → ((n : ℕ) → f n ≡ g n) → (n : ℕ) → put_all held ps parts f n ≡ put_all held ps parts g n
 put_all_over held [] parts f g same n = same n
@@ -201,12 +209,13 @@ both_of : (a b c : Bool) → (b ≡ true → c ≡ true) → (a && b) ≡ true �
 both_of true b c f e = f e
 both_of false b c f e = absurd (let z : false ≡ true = e in cc)
 
-pub written_ready : (v : View) (a : ℕ → ℕ) (looked : ℕ) (ss : List Slot) → are_ready v (target_in ss looked a) ≡ true → are_ready v (targets_in ss a) ≡ true
-written_ready v a looked [] e = refl
-written_ready v a looked (Word ∷ ss) e = written_ready v a looked ss e
-written_ready v a looked (Reads ∷ ss) e = written_ready v a looked ss (last_of _ _ e)
-written_ready v a looked (Writes ∷ ss) e = both_of _ _ _ (written_ready v a looked ss) e
-written_ready v a looked (Text ∷ ss) e = written_ready v a looked ss (last_of _ _ e)
-written_ready v a looked (ToWord ∷ ss) e = both_of _ _ _ (written_ready v a looked ss) e
-written_ready v a looked (ToLong ∷ ss) e = both_of _ _ _ (written_ready v a looked ss) e
-written_ready v a looked (ToWords count ∷ ss) e = both_of _ _ _ (written_ready v a looked ss) e
+pub written_ready : (v : View) (a : ℕ → ℕ) (looked value : ℕ) (ss : List Slot) → FitsIn ss value → are_ready v (target_in ss looked a) ≡ true → are_ready v (targets_in ss a) ≡ true
+written_ready v a looked value [] fits e = refl
+written_ready v a looked value (Word ∷ ss) fits e = written_ready v a looked value ss fits.1 e
+written_ready v a looked value (Reads ∷ ss) fits e = written_ready v a looked value ss fits.1 (last_of _ _ e)
+written_ready v a looked value (Writes ∷ ss) fits e = absurd fits.0
+written_ready v a looked value (Text ∷ ss) fits e = written_ready v a looked value ss fits.1 (last_of _ _ e)
+written_ready v a looked value (ToWord ∷ ss) fits e = both_of _ _ _ (written_ready v a looked value ss fits.1) e
+written_ready v a looked value (ToLong ∷ ss) fits e = both_of _ _ _ (written_ready v a looked value ss fits.1) e
+written_ready v a looked value (ToWords count ∷ ss) fits e = absurd fits.0
+written_ready v a looked value (Heap ∷ ss) fits e = absurd fits.0

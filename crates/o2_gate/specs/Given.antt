@@ -4,7 +4,7 @@ use Rattle.o2_base.specs.declared.selector.Selector.{Selector}
 use Rattle.o2_isa.specs.declared.cpu.Cpu.{Cpu}
 use Rattle.o2_isa.specs.View.{View, Filling, IsBound}
 use Rattle.o2_world.specs.declared.types.Slot.{Slot}
-use Rattle.o2_world.specs.declared.types.Slot.TheVariants.{Word, Reads, Writes, Text, ToWord, ToLong, ToWords}
+use Rattle.o2_world.specs.declared.types.Slot.TheVariants.{Word, Reads, Writes, Text, ToWord, ToLong, ToWords, Heap}
 use Rattle.o2_world.specs.Calls.{argument, has_arguments}
 use Rattle.o2_world.specs.SharedNames.{looked_at, name_most, text_at, text_size}
 use Rattle.o2_world.specs.Slots.{pointers_in, words_in}
@@ -49,6 +49,7 @@ IsTextAt v a t Text n = IsRead v (a (n + 1)) (a n) t
 IsTextAt v a t ToWord n = Unit {0}
 IsTextAt v a t ToLong n = Unit {0}
 IsTextAt v a t (ToWords count) n = Unit {0}
+IsTextAt v a t Heap n = Unit {0}
 
 abbrev pub IsTextIn : View → (ℕ → ℕ) → TextArgument → List Slot → Type 0
 IsTextIn v a t [] = Unit {0}

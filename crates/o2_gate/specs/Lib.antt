@@ -11,4 +11,5 @@ pub mod Replies
 pub mod Called
 pub mod Names
 pub mod Overs
+pub mod Heaps
 pub mod Pieces

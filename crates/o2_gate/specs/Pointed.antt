@@ -5,7 +5,7 @@ use Rattle.o2_isa.specs.View.{View, Hold, Filling, is_readable, is_writable, fou
 use Rattle.o2_isa.specs.Presence.{IsMissed, is_in}
 use Rattle.o2_isa.specs.Pointers.{is_ready}
 use Rattle.o2_world.specs.SharedNames.{text_size}
-use Rattle.o2_world.specs.Slots.{Pointer, are_good}
+use Rattle.o2_world.specs.Slots.{Pointer, are_good, is_for_writing}
 use Rattle.o2_run.specs.Room.{pointed}
 use Rattle.o2_gate.specs.declared.pointer.Pointed.{Pointed}
 use Rattle.o2_gate.specs.declared.pointer.Pointed.TheVariants.{Good, Bad, Missed}
@@ -15,11 +15,6 @@ use Rattle.o2_gate.specs.Befores.{boundless}
 abbrev pub pointer : (writes : Bool) → (selector offset count : ℕ) → Pointer
 pointer writes s o n = record { selector = s; offset = o; count = n; good = if writes then is_writable else is_readable }
 
--- what a selector names can be written
-abbrev pub writes_to : Option Hold → Bool
-writes_to None = false
-writes_to (Some h) = is_writable h.rights
-
 -- a range lies in what a selector names, by its size
 abbrev pub lies_within : View → (offset count : ℕ) → Option Hold → Bool
 lies_within v offset count None = false
@@ -27,7 +22,7 @@ lies_within v offset count (Some h) = nat_le (offset + count) (v.size h.name)
 
 -- a range lies in what the selector names, which can be written where bytes are to be written
 abbrev pub allows : (writes : Bool) → View → (s offset count : ℕ) → Bool
-allows writes v s offset count = (not writes || writes_to (found v s)) && lies_within v offset count (found v s)
+allows writes v s offset count = (not writes || is_for_writing (found v s)) && lies_within v offset count (found v s)
 
 abbrev pub are_ready : View → List Pointer → Bool
 are_ready v [] = true

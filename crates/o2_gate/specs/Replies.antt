@@ -3,7 +3,7 @@ use Rattle.std.specs.Prelude.{ℕ, ◌≤◌, List, [], ◌∷◌, Option, ◌==
 use Rattle.o2_isa.specs.View.{Hold}
 use Rattle.o2_world.specs.declared.types.Argument.{Argument}
 use Rattle.o2_world.specs.declared.types.Slot.{Slot}
-use Rattle.o2_world.specs.declared.types.Slot.TheVariants.{Word, Reads, Writes, Text, ToWord, ToLong, ToWords}
+use Rattle.o2_world.specs.declared.types.Slot.TheVariants.{Word, Reads, Writes, Text, ToWord, ToLong, ToWords, Heap}
 use Rattle.o2_world.specs.Slots.{parts_in, put_all, shown_in, targets_in, values_in, words_in}
 use Rattle.o2_world.specs.World.{Line, Calls}
 use Rattle.o2_gate.specs.declared.arguments.Arguments.{Arguments}
@@ -12,7 +12,7 @@ use Rattle.o2_gate.specs.Given.{word_in}
 use Rattle.o2_gate.specs.MovedLines.{all_lines}
 use Rattle.o2_gate.specs.Targets.{name_of, slots_of}
 
--- a value goes behind a pointer for one, and fits there; no other pointer is for writing
+-- a value goes behind a pointer for one, and fits there; no other pointer is for writing, and no heap
 abbrev pub FitsAt : Slot → (value : ℕ) → Type 0
 FitsAt Word value = Unit {0}
 FitsAt Reads value = Unit {0}
@@ -21,6 +21,7 @@ FitsAt Text value = Unit {0}
 FitsAt ToWord value = value ≤ 65535
 FitsAt ToLong value = Unit {0}
 FitsAt (ToWords count) value = ⊥
+FitsAt Heap value = ⊥
 
 abbrev pub FitsIn : List Slot → (value : ℕ) → Type 0
 FitsIn [] value = Unit {0}

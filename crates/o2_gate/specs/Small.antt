@@ -1,7 +1,7 @@
 -- What each row of a call keeps to.
 use Rattle.std.specs.Prelude.{ℕ, ◌+◌, ◌≤◌, List, [], ◌∷◌, length}
 use Rattle.o2_world.specs.declared.types.Slot.{Slot}
-use Rattle.o2_world.specs.declared.types.Slot.TheVariants.{Word, Reads, Writes, Text, ToWord, ToLong, ToWords}
+use Rattle.o2_world.specs.declared.types.Slot.TheVariants.{Word, Reads, Writes, Text, ToWord, ToLong, ToWords, Heap}
 use Rattle.o2_world.specs.Slots.{words_in}
 
 -- how many of the arguments are texts
@@ -13,6 +13,7 @@ texts_at Text = 1
 texts_at ToWord = 0
 texts_at ToLong = 0
 texts_at (ToWords count) = 0
+texts_at Heap = 0
 
 abbrev pub texts_in : List Slot → ℕ
 texts_in [] = 0

@@ -1,7 +1,7 @@
 -- The pointers of a call on segments, and what it comes to.
 use Rattle.std.specs.Prelude.{ℕ, ◌+◌, ◌*◌, ◌-◌, false, true, List, [], ◌∷◌, ◌++◌}
 use Rattle.o2_world.specs.declared.types.Slot.{Slot}
-use Rattle.o2_world.specs.declared.types.Slot.TheVariants.{Word, Reads, Writes, Text, ToWord, ToLong, ToWords}
+use Rattle.o2_world.specs.declared.types.Slot.TheVariants.{Word, Reads, Writes, Text, ToWord, ToLong, ToWords, Heap}
 use Rattle.o2_world.specs.Calls.{Before, Effect, row_of}
 use Rattle.o2_world.specs.Outcomes.{CallRow, come_out, ruled}
 use Rattle.o2_world.specs.SharedNames.{looked_at, name_most}
@@ -24,6 +24,7 @@ target_at Text looked a n = pointer false (a (n + 1)) (a n) looked ∷ []
 target_at ToWord looked a n = pointer true (a (n + 1)) (a n) 2 ∷ []
 target_at ToLong looked a n = pointer true (a (n + 1)) (a n) 4 ∷ []
 target_at (ToWords count) looked a n = pointer true (a (n + 1)) (a n) (2 * count) ∷ []
+target_at Heap looked a n = []
 
 abbrev pub target_in : List Slot → (looked : ℕ) → (ℕ → ℕ) → List Pointer
 target_in [] looked a = []

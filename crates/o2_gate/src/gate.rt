@@ -25,6 +25,7 @@ ghost use Rattle.o2_run.specs.Pieces.{counts, PartHands};
 use crate::ask::ask;
 use crate::exit::exit;
 use crate::given::{Gathered, Given, gather};
+use crate::heap::serve_heap;
 use crate::read::read;
 use crate::row::Row;
 use crate::table::row_of;
@@ -169,6 +170,19 @@ pub fn call<B: Ranges, I: Source, C: Sink, R: Sink>(
                 let words = &given.words;
                 return read(
                     pid, next, &row, words, cpu, bus, line, buffer, input, report,
+                );
+            }
+            if service >= 20 {
+                return serve_heap(
+                    service,
+                    next,
+                    pid,
+                    &row,
+                    &given.words,
+                    cpu,
+                    bus,
+                    line,
+                    report,
                 );
             }
             serve(

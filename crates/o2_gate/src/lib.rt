@@ -7,6 +7,7 @@ mod called;
 mod exit;
 mod gate;
 mod given;
+mod heap;
 mod line;
 mod listed;
 mod moves;

@@ -25,7 +25,7 @@ fn shown_at(slot: Slot, words: &[u16; 6], place: usize) -> Argument
     ensures { result ≡ shown_at slot (word_in words.now) place }
 {
     match slot {
-        Slot::Word => Argument::Word(words[place]),
+        Slot::Word | Slot::Heap => Argument::Word(words[place]),
         Slot::Reads => Argument::Far(words[place + 1], words[place]),
         Slot::Writes => Argument::Far(words[place + 1], words[place]),
         Slot::Text => Argument::Far(words[place + 1], words[place]),

@@ -3,7 +3,8 @@ ghost use Rattle.std.specs.Prelude.{◌≡◌, ◌+◌, ◌≤◌, ◌==◌, ℕ
 ghost use Rattle.o2_isa.specs.View.{Filling, is_readable, is_writable, whole, found};
 ghost use Rattle.o2_isa.specs.Pointers.{is_ready, range_of, put_at_pointer, KeepsAllButBytes};
 ghost use Rattle.o2_bus.specs.Writes.{WritesHeld};
-ghost use Rattle.o2_gate.specs.Pointed.{Tells, only, pointer, writes_to, lies_within, allows};
+ghost use Rattle.o2_world.specs.Slots.{is_for_writing};
+ghost use Rattle.o2_gate.specs.Pointed.{Tells, only, pointer, lies_within, allows};
 
 use o2_base::Selector;
 use o2_bus::{Bus, Ranges};
@@ -23,8 +24,8 @@ pub enum Pointed {
 
 /// Whether a selector names data that can be written.
 #[tactic(auto, unfolding(o2_isa::specs::View::rights_at), using(crate::proofs::Access::rights_tell, crate::proofs::Access::no_rights))]
-fn names_writable<B: Bus>(bus: &B, sel: Selector) -> bool
-    ensures { result ≡ writes_to (found (B.view bus.now) sel.0) }
+pub(crate) fn names_writable<B: Bus>(bus: &B, sel: Selector) -> bool
+    ensures { result ≡ is_for_writing (found (B.view bus.now) sel.0) }
 {
     match bus.rights_of(sel) {
         Some(access) => Access(access).is_writable(),

@@ -8,14 +8,14 @@ ghost use Rattle.o2_gate.specs.Targets.{name_of, slots_of};
 use crate::arguments::Arguments;
 use crate::row::{Row, made};
 use o2_world::Slot;
-use o2_world::Slot::{Reads, Text, ToLong, ToWord, ToWords, Word, Writes};
+use o2_world::Slot::{Heap, Reads, Text, ToLong, ToWord, ToWords, Word, Writes};
 
 /// How many words an argument has.
 pub fn words_of(slot: Slot) -> usize
     ensures { result ≡ words_of slot }
 {
     match slot {
-        Word => 1,
+        Word | Heap => 1,
         Reads | Writes | Text | ToWord | ToLong | ToWords(_) => 2,
     }
 }
@@ -36,7 +36,7 @@ pub fn word_count(slots: &[Slot]) -> usize
 #[tactic(auto, unfolding(o2_world::specs::Calls::row_of))]
 pub fn row_of(service: u16) -> Option<Row>
     ensures row { IsRowOf (row_there service) result }
-    ensures known { IfSome result (λ row. (1 ≤ service) × (service ≤ 19)) }
+    ensures known { IfSome result (λ row. (1 ≤ service) × (service ≤ 22)) }
 {
     match service {
         1 => Some(made(b"DosExit", &[Word, Word])),
@@ -58,6 +58,9 @@ pub fn row_of(service: u16) -> Option<Row>
         17 => Some(made(b"DosReallocHuge", &[Word, Word, Word])),
         18 => Some(made(b"DosGetHugeShift", &[ToWord])),
         19 => Some(made(b"DosMemAvail", &[ToLong])),
+        20 => Some(made(b"DosSubSet", &[Heap, Word, Word])),
+        21 => Some(made(b"DosSubAlloc", &[Heap, ToWord, Word])),
+        22 => Some(made(b"DosSubFree", &[Heap, Word, Word])),
         _ => None,
     }
 }

@@ -74,6 +74,7 @@ fn store_at<B: Ranges>(bus: &mut B, slot: Slot, words: &[u16; 6], place: usize, 
         Slot::Text => {}
         Slot::Writes => {}
         Slot::ToWords(_) => {}
+        Slot::Heap => {}
     }
 }
 
@@ -108,10 +109,18 @@ pub fn give_value<B: Ranges>(bus: &mut B, arguments: Arguments, error: u16, valu
     }
 }
 
+/// The registers of a call with such arguments that comes back to `next` with this error number: they are gone from the stack.
+pub(crate) fn return_from(cpu: &mut Cpu, slots: &[Slot], error: u16, next: u16)
+    requires { words_in slots.now ≤ 6 }
+    ensures { cpu.new ≡ returned cpu.old next (words_in slots.now) error }
+{
+    let words = word_count(slots);
+    give_back(cpu, next, words as u16, error);
+}
+
 /// The registers of a call on segments that comes back to `next` with this error number: its arguments are gone from the stack.
 pub fn come_back(cpu: &mut Cpu, arguments: Arguments, error: u16, next: u16)
     ensures { cpu.new ≡ returned cpu.old next (words_of_all arguments) error }
 {
-    let words = word_count(row_for(&arguments).slots);
-    give_back(cpu, next, words as u16, error);
+    return_from(cpu, row_for(&arguments).slots, error, next);
 }

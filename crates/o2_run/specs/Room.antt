@@ -15,7 +15,7 @@ use Rattle.o2_world.specs.Holders.{process_at}
 use Rattle.o2_world.specs.Views.{view_of}
 use Rattle.o2_world.specs.Calls.{Before, Effect, argument, has_arguments, row_of}
 use Rattle.o2_world.specs.Outcomes.{CallRow}
-use Rattle.o2_world.specs.Slots.{Pointer, pointers_in, words_in}
+use Rattle.o2_world.specs.Slots.{Pointer, are_good, heaps_in, may_have_heap, pointers_in, words_in}
 use Rattle.o2_world.specs.Effect.{answered}
 use Rattle.o2_world.specs.Run.{before, changed, next_dispatch}
 
@@ -51,12 +51,21 @@ pointed v [] = []
 pointed v (p ∷ ps) =
     if p.count == 0 then pointed v ps else passed v (bound_in v.held p.selector) p (pointed v ps)
 
+-- heaps are looked at where all pointers are good; one that can't be written is refused by an error, and doesn't count
+abbrev pub heaped : View → List Pointer → List ℕ
+heaped v [] = []
+heaped v (p ∷ ps) = (if may_have_heap v p.selector then name_in (bound_in v.held p.selector) else []) ++ heaped v ps
+
+abbrev pub worded_names : View → CallRow → (ℕ → ℕ) → List ℕ
+worded_names v row a =
+    pointed v (pointers_in row.slots v a) ++ (if are_good v (pointers_in row.slots v a) then heaped v (heaps_in row.slots a) else [])
+
 -- the words of a call's arguments must lie in the stack before a pointer is looked at
 abbrev pub call_names : Before → Option CallRow → List ℕ
 call_names b None = []
 call_names b (Some row) =
     if has_arguments b.view b.cpu (words_in row.slots)
-    then pointed b.view (pointers_in row.slots b.view (argument b.view b.cpu))
+    then worded_names b.view row (argument b.view b.cpu)
     else []
 
 abbrev pub gate_names : Before → Result Machine Stop → List ℕ

@@ -29,7 +29,7 @@ use Rattle.o2_gate.specs.declared.arguments.Arguments.{Arguments}
 use Rattle.o2_gate.specs.Given.{word_in}
 use Rattle.o2_gate.specs.Targets.{looked_in, slots_of, target_in, targets}
 use Rattle.o2_world.specs.declared.types.Slot.{Slot}
-use Rattle.o2_world.specs.declared.types.Slot.TheVariants.{Word, Reads, Writes, Text, ToWord, ToLong, ToWords}
+use Rattle.o2_world.specs.declared.types.Slot.TheVariants.{Word, Reads, Writes, Text, ToWord, ToLong, ToWords, Heap}
 use Rattle.o2_world.specs.Slots.{Pointer, targets_in, words_in}
 use Rattle.o2_space.proofs.ForValues.{AreForValues, for_values}
 use Rattle.o2_gate.specs.Pointed.{are_ready, pointer}
@@ -102,6 +102,7 @@ module _ (p : Parts) (w : World) (x : Process) (pid : ℕ) (lawful : AreLawful p
   aimed_slots (ToLong ∷ ss) looked a plain holds ready =
       (aimed_at (pointer true (a (words_in ss + 1)) (a (words_in ss)) 4) refl holds (and_left _ _ ready), aimed_slots ss looked a plain holds (and_right _ _ ready))
   aimed_slots (ToWords count ∷ ss) looked a plain holds ready = absurd plain
+  aimed_slots (Heap ∷ ss) looked a plain holds ready = absurd plain
 
   no_slots : (ss : List Slot) (looked : ℕ) (a : ℕ → ℕ) → AreForValues ss → target_in ss looked a ≡ [] → Aimed (targets_in ss a)
   no_slots [] looked a plain none = tt
@@ -112,6 +113,7 @@ module _ (p : Parts) (w : World) (x : Process) (pid : ℕ) (lawful : AreLawful p
   no_slots (ToWord ∷ ss) looked a plain none = absurd (cc)
   no_slots (ToLong ∷ ss) looked a plain none = absurd (cc)
   no_slots (ToWords count ∷ ss) looked a plain none = absurd plain
+  no_slots (Heap ∷ ss) looked a plain none = absurd plain
 
   written_at : (a : Arguments) (t : Shelf) → LeavesHolds a.request p.maps n → are_ready (seen p.shelf p.maps pid c) (targets a) ≡ true → Aimed (written_in a)
   written_at a t holds ready = go (leaves_aimed a p.maps n p.shelf t)

@@ -1,7 +1,7 @@
 -- What goes for the slots of every call on segments: each argument is a word, a pointer to a text, or a pointer for a value.
 use Rattle.std.proofs.Common.{◌≡◌, ℕ, suc, ◌==◌, Bool, true, false, if◌then◌else◌, List, [], ◌∷◌, refl, sym, subst, arith}
 use Rattle.o2_world.specs.declared.types.Slot.{Slot}
-use Rattle.o2_world.specs.declared.types.Slot.TheVariants.{Word, Reads, Writes, Text, ToWord, ToLong, ToWords}
+use Rattle.o2_world.specs.declared.types.Slot.TheVariants.{Word, Reads, Writes, Text, ToWord, ToLong, ToWords, Heap}
 use Rattle.o2_world.specs.Calls.{row_of}
 use Rattle.o2_world.specs.SharedNames.{looked_at}
 use Rattle.o2_world.specs.Slots.{Pointer}
@@ -29,6 +29,7 @@ AreForValues (Text ∷ ss) = AreForValues ss
 AreForValues (ToWord ∷ ss) = AreForValues ss
 AreForValues (ToLong ∷ ss) = AreForValues ss
 AreForValues (ToWords count ∷ ss) = ⊥
+AreForValues (Heap ∷ ss) = ⊥
 
 -- by the service, which is that of what is asked for
 by_request : (P : SegmentArguments → List Slot → Type 0) → ((x : SegmentArguments) → P x (slots_by (row_of (request_of x).service))) → (a : Arguments) → P a.request (slots_of a)
@@ -118,6 +119,7 @@ slots_some (Text ∷ ss) looked a plain some = (some, slots_some ss looked a pla
 slots_some (ToWord ∷ ss) looked a plain some = (refl, slots_some ss looked a plain some)
 slots_some (ToLong ∷ ss) looked a plain some = (refl, slots_some ss looked a plain some)
 slots_some (ToWords count ∷ ss) looked a plain some = absurd plain
+slots_some (Heap ∷ ss) looked a plain some = absurd plain
 
 pub targets_some : (a : Arguments) → AreSome (targets a)
 targets_some a = slots_some (slots_of a) (looked_in a.request) (word_in a.words) (for_values a) (looked_some a.request)

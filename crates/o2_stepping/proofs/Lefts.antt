@@ -13,13 +13,13 @@ use Rattle.o2_isa.specs.declared.cpu.Stop.TheVariants as stop
 use Rattle.o2_isa.proofs.StepLaws.{step_loads_few}
 use Rattle.o2_place.specs.declared.seg_id.SegId.{SegId}
 use Rattle.o2_world.specs.declared.types.Slot.{Slot}
-use Rattle.o2_world.specs.declared.types.Slot.TheVariants.{Word, Reads, Writes, Text, ToWord, ToLong, ToWords}
+use Rattle.o2_world.specs.declared.types.Slot.TheVariants.{Word, Reads, Writes, Text, ToWord, ToLong, ToWords, Heap}
 use Rattle.o2_world.specs.Calls.{Before, argument, has_arguments, row_of, rows}
 use Rattle.o2_world.specs.Outcomes.{CallRow}
 use Rattle.o2_world.specs.RowLaws.{EachRow}
-use Rattle.o2_world.specs.Slots.{Pointer, pointers_in, words_in}
+use Rattle.o2_world.specs.Slots.{Pointer, are_good, heaps_in, may_have_heap, pointers_in, words_in}
 use Rattle.o2_world.proofs.Rows.{by_rows, each_entry}
-use Rattle.o2_run.specs.Room.{call_names, gate_names, passed, pointed, touched}
+use Rattle.o2_run.specs.Room.{call_names, gate_names, heaped, name_in, passed, pointed, touched, worded_names}
 use Rattle.o2_stepping.specs.Rooms.{ages_of, left_in}
 use Rattle.o2_stepping.proofs.Named.{both_in}
 
@@ -43,32 +43,49 @@ pointed_few : (v : View) (ps : List Pointer) → length (pointed v ps) ≤ lengt
 pointed_few v [] = omega arith
 pointed_few v (p ∷ ps) = counted_few v p ps (pointed_few v ps) (p.count == 0)
 
--- how many pointers there are among a call's arguments
-abbrev pointer_count : List Slot → ℕ
-pointer_count [] = 0
-pointer_count (Word ∷ ss) = pointer_count ss
-pointer_count (Reads ∷ ss) = suc (pointer_count ss)
-pointer_count (Writes ∷ ss) = suc (pointer_count ss)
-pointer_count (Text ∷ ss) = suc (pointer_count ss)
-pointer_count (ToWord ∷ ss) = suc (pointer_count ss)
-pointer_count (ToLong ∷ ss) = suc (pointer_count ss)
-pointer_count (ToWords count ∷ ss) = suc (pointer_count ss)
+heaped_few : (v : View) (ps : List Pointer) → length (heaped v ps) ≤ length ps
+heaped_few v [] = omega arith
+heaped_few v (p ∷ ps) = go (may_have_heap v p.selector) (bound_in v.held p.selector) (heaped_few v ps)
+  where
+    go : (good : Bool) (o : Option Hold) → length (heaped v ps) ≤ length ps → length (cond good (name_in o) [] ++ heaped v ps) ≤ suc (length ps)
+    go true None few = omega (arith, few)
+    go true (Some h) few = omega (arith, few)
+    go false o few = omega (arith, few)
 
-counted : (ss : List Slot) (v : View) (a : ℕ → ℕ) → length (pointers_in ss v a) ≡ pointer_count ss
+-- how many pointers and heaps there are among a call's arguments
+abbrev name_count : List Slot → ℕ
+name_count [] = 0
+name_count (Word ∷ ss) = name_count ss
+name_count (Reads ∷ ss) = suc (name_count ss)
+name_count (Writes ∷ ss) = suc (name_count ss)
+name_count (Text ∷ ss) = suc (name_count ss)
+name_count (ToWord ∷ ss) = suc (name_count ss)
+name_count (ToLong ∷ ss) = suc (name_count ss)
+name_count (ToWords count ∷ ss) = suc (name_count ss)
+name_count (Heap ∷ ss) = suc (name_count ss)
+
+one_pointer : (a b n : ℕ) → a + b ≡ n → suc a + b ≡ suc n
+one_pointer a b n e = omega (arith, e)
+
+one_heap : (a b n : ℕ) → a + b ≡ n → a + suc b ≡ suc n
+one_heap a b n e = omega (arith, e)
+
+counted : (ss : List Slot) (v : View) (a : ℕ → ℕ) → length (pointers_in ss v a) + length (heaps_in ss a) ≡ name_count ss
 counted [] v a = refl
 counted (Word ∷ ss) v a = counted ss v a
-counted (Reads ∷ ss) v a = ap suc (counted ss v a)
-counted (Writes ∷ ss) v a = ap suc (counted ss v a)
-counted (Text ∷ ss) v a = ap suc (counted ss v a)
-counted (ToWord ∷ ss) v a = ap suc (counted ss v a)
-counted (ToLong ∷ ss) v a = ap suc (counted ss v a)
-counted (ToWords count ∷ ss) v a = ap suc (counted ss v a)
+counted (Reads ∷ ss) v a = one_pointer (length (pointers_in ss v a)) (length (heaps_in ss a)) (name_count ss) (counted ss v a)
+counted (Writes ∷ ss) v a = one_pointer (length (pointers_in ss v a)) (length (heaps_in ss a)) (name_count ss) (counted ss v a)
+counted (Text ∷ ss) v a = one_pointer (length (pointers_in ss v a)) (length (heaps_in ss a)) (name_count ss) (counted ss v a)
+counted (ToWord ∷ ss) v a = one_pointer (length (pointers_in ss v a)) (length (heaps_in ss a)) (name_count ss) (counted ss v a)
+counted (ToLong ∷ ss) v a = one_pointer (length (pointers_in ss v a)) (length (heaps_in ss a)) (name_count ss) (counted ss v a)
+counted (ToWords count ∷ ss) v a = one_pointer (length (pointers_in ss v a)) (length (heaps_in ss a)) (name_count ss) (counted ss v a)
+counted (Heap ∷ ss) v a = one_heap (length (pointers_in ss v a)) (length (heaps_in ss a)) (name_count ss) (counted ss v a)
 
 -- the table as a whole
 abbrev few_there : CallRow → Bool
-few_there r = nat_le (pointer_count r.slots) 2
+few_there r = nat_le (name_count r.slots) 2
 
-each_by : (rs : List (ℕ × CallRow)) → list_all (λ (e : ℕ × CallRow). few_there e.1) rs ≡ true → EachRow (λ (r : CallRow). pointer_count r.slots ≤ 2) rs
+each_by : (rs : List (ℕ × CallRow)) → list_all (λ (e : ℕ × CallRow). few_there e.1) rs ≡ true → EachRow (λ (r : CallRow). name_count r.slots ≤ 2) rs
 each_by [] all = tt
 each_by (e ∷ es) all = go (few_there e.1) refl all (each_by es)
   where
@@ -76,22 +93,35 @@ each_by (e ∷ es) all = go (few_there e.1) refl all (each_by es)
     less n e = grind arith
 
     go : (b : Bool) → few_there e.1 ≡ b → (b && list_all (λ (x : ℕ × CallRow). few_there x.1) es) ≡ true
-        → (list_all (λ (x : ℕ × CallRow). few_there x.1) es ≡ true → EachRow (λ (r : CallRow). pointer_count r.slots ≤ 2) es)
-        → EachRow (λ (r : CallRow). pointer_count r.slots ≤ 2) (e ∷ es)
-    go true is rest later = (less (pointer_count e.1.slots) is, later rest)
+        → (list_all (λ (x : ℕ × CallRow). few_there x.1) es ≡ true → EachRow (λ (r : CallRow). name_count r.slots ≤ 2) es)
+        → EachRow (λ (r : CallRow). name_count r.slots ≤ 2) (e ∷ es)
+    go true is rest later = (less (name_count e.1.slots) is, later rest)
     go false is rest later = absurd (false≢true rest)
 
-row_few : (b : Before) (service : ℕ) (r : CallRow) → pointer_count r.slots ≤ 2 → length (call_names b (Some r)) ≤ 2
+worded_few : (v : View) (r : CallRow) (a : ℕ → ℕ) → name_count r.slots ≤ 2 → length (worded_names v r a) ≤ 2
+worded_few v r a few = go (are_good v (pointers_in r.slots v a))
+  where
+    pointers : length (pointed v (pointers_in r.slots v a)) ≤ length (pointers_in r.slots v a)
+    pointers = pointed_few v (pointers_in r.slots v a)
+
+    heaps : length (heaped v (heaps_in r.slots a)) ≤ length (heaps_in r.slots a)
+    heaps = heaped_few v (heaps_in r.slots a)
+
+    go : (good : Bool) → length (pointed v (pointers_in r.slots v a) ++ cond good (heaped v (heaps_in r.slots a)) []) ≤ 2
+    go true = (let l = length-append (pointed v (pointers_in r.slots v a)) (heaped v (heaps_in r.slots a)) in let c = counted r.slots v a in omega (arith, l, pointers, heaps, c, few))
+    go false = (let l = length-append (pointed v (pointers_in r.slots v a)) [] in let c = counted r.slots v a in omega (arith, l, pointers, c, few))
+
+row_few : (b : Before) (service : ℕ) (r : CallRow) → name_count r.slots ≤ 2 → length (call_names b (Some r)) ≤ 2
 row_few b service r few = go (has_arguments b.view b.cpu (words_in r.slots))
   where
-    go : (z : Bool) → length (cond z (pointed b.view (pointers_in r.slots b.view (argument b.view b.cpu))) []) ≤ 2
-    go true = (let a = pointed_few b.view (pointers_in r.slots b.view (argument b.view b.cpu)) in let c = counted r.slots b.view (argument b.view b.cpu) in omega (arith, a, c, few))
+    go : (z : Bool) → length (cond z (worded_names b.view r (argument b.view b.cpu)) []) ≤ 2
+    go true = worded_few b.view r (argument b.view b.cpu) few
     go false = omega arith
 
 call_few : (b : Before) (service : ℕ) → length (call_names b (row_of service)) ≤ 2
 call_few b service =
     by_rows (λ (o : Option CallRow). length (call_names b o) ≤ 2) (omega arith)
-    (each_entry (λ (n : ℕ) (r : CallRow). pointer_count r.slots ≤ 2) (λ (n : ℕ) (r : CallRow). length (call_names b (Some r)) ≤ 2) (row_few b) rows (each_by rows refl)) service
+    (each_entry (λ (n : ℕ) (r : CallRow). name_count r.slots ≤ 2) (λ (n : ℕ) (r : CallRow). length (call_names b (Some r)) ≤ 2) (row_few b) rows (each_by rows refl)) service
 
 gate_few : (b : Before) (r : Result Machine Stop) → length (gate_names b r) ≤ 2
 gate_few b (Ok s) = omega arith

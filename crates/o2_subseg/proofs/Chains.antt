@@ -1,8 +1,8 @@
 -- Chains of free blocks: what is true of those that are read, and that those that are written are read again.
-use Rattle.std.proofs.Common.{◌≡◌, ◌≢◌, ◌⊎◌, ℕ, zero, suc, ◌+◌, ◌-◌, ◌*◌, ◌/◌, ◌%◌, ◌<◌, ◌≤◌, Bool, true, false, ◌&&◌, ◌==◌, nat_le, List, [], ◌∷◌, length, Option, Some, None, option_map, if◌then◌else◌, refl, sym, ap, subst, ◌∙◌, inl, inr, arith}
+use Rattle.std.proofs.Common.{◌≡◌, ℕ, zero, suc, ◌+◌, ◌-◌, ◌*◌, ◌/◌, ◌%◌, ◌<◌, ◌≤◌, Bool, true, false, ◌&&◌, ◌==◌, nat_le, List, [], ◌∷◌, length, Option, Some, None, option_map, if◌then◌else◌, refl, sym, ap, subst, ◌∙◌, arith}
 use Rattle.std.proofs.lemmas.Bool.Decides.{nat_tests}
-use Rattle.o2_subseg.specs.Heaps.{Heap, word, put_word, put_words, is_block, chain_from, is_header, heap_of, first, block_words, controls, with_controls}
-use Rattle.o2_subseg.proofs.Words.{HasWord, AreBytes, AreThere, word_there, there_at, put_keeps, put_there, put_all_there}
+use Rattle.o2_world.specs.Heaps.{Heap, word, is_block, chain_from, is_header, heap_of, first, block_words}
+use Rattle.o2_subseg.proofs.Words.{HasWord, AreBytes, AreThere, word_there, there_at}
 
 -- a block that lies from a place on, within the heap
 pub record IsBlock (size low at len : ℕ) : Type 0 where

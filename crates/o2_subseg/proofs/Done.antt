@@ -1,15 +1,15 @@
 -- What each call leaves when it is done, as units.
-use Rattle.std.proofs.Common.{◌≡◌, ◌≢◌, ◌⊎◌, ℕ, ◌+◌, ◌-◌, ◌*◌, ◌/◌, ◌%◌, ◌<◌, ◌≤◌, Bool, true, false, not, ◌&&◌, ◌||◌, ◌==◌, nat_le, nat_lt, List, [], ◌∷◌, length, get_or, map, Option, Some, None, option_map, if◌then◌else◌, refl, sym, ap, subst, ◌∙◌, inl, inr, arith}
+use Rattle.std.proofs.Common.{◌≡◌, ◌≢◌, ◌⊎◌, ℕ, ◌+◌, ◌-◌, ◌*◌, ◌/◌, ◌%◌, ◌<◌, ◌≤◌, Bool, true, false, not, ◌&&◌, ◌||◌, ◌==◌, nat_le, nat_lt, List, [], ◌∷◌, length, map, Option, Some, None, option_map, if◌then◌else◌, refl, sym, ap, subst, ◌∙◌, inl, inr, arith}
 use Rattle.std.proofs.lemmas.Bool.{cases_lt}
 use Rattle.std.proofs.lemmas.Bool.Decides.{nat_tests}
 use Rattle.std.proofs.lemmas.List.FromFn.{get_or-map-range_with_len, length-map-range_with_len}
 use Rattle.std.proofs.lemmas.List.{get_or_past}
 use Rattle.std.specs.List.{range_with_len}
-use Rattle.o2_subseg.specs.Heaps.{Heap, heap_of, with_controls, controls, units, is_free}
-use Rattle.o2_subseg.specs.Rulings.{HeapRuling, refuses, leaves, rounded, area_of, take_from, insert, meets, fresh, grown, growing, setting_up, taken, taking_of, taking, is_outside, giving_back_to, giving_back}
+use Rattle.o2_world.specs.Heaps.{Heap, heap_of, units, is_free}
+use Rattle.o2_world.specs.HeapRulings.{HeapRuling, refuses, leaves, rounded, take_from, insert, meets, taken, taking_of, taking, is_outside, giving_back_to, giving_back}
 use Rattle.o2_subseg.specs.Laws.{unit_at, is_among, AreFree, HasHeap}
-use Rattle.o2_subseg.proofs.Chains.{IsBlock, AreLaid, IsHeap, heap_read}
-use Rattle.o2_subseg.proofs.Units.{lies_in, none_behind, taken_free, taken_laid, LeavesFree, AreLeft, inserted_free, inserted_laid, IsTakenBy, run_taken, was_free, WasFree, one_form}
+use Rattle.o2_subseg.proofs.Chains.{IsBlock, AreLaid, IsHeap}
+use Rattle.o2_subseg.proofs.Units.{lies_in, taken_free, taken_laid, LeavesFree, AreLeft, inserted_free, inserted_laid, IsTakenBy, run_taken}
 use Rattle.o2_subseg.proofs.Written.{IsFit, written_read, others_stay}
 
 -- a unit is free where its first byte is

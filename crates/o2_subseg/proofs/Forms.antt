@@ -1,8 +1,7 @@
 -- Two heaps with one list of units are one.
-use Rattle.std.proofs.Common.{◌≡◌, ◌⊎◌, ℕ, ◌+◌, ◌*◌, ◌/◌, ◌%◌, ◌<◌, ◌≤◌, Bool, true, false, List, [], ◌∷◌, get_or, Option, Some, refl, sym, ap, subst, ◌∙◌, inl, inr, arith}
-use Rattle.o2_subseg.specs.Heaps.{AreBytes, Heap, heap_of, controls, units, is_free}
-use Rattle.o2_subseg.specs.Laws.{unit_at}
-use Rattle.o2_subseg.proofs.Chains.{AreLaid, IsHeap, heap_read}
+use Rattle.std.proofs.Common.{◌≡◌, ◌⊎◌, ℕ, ◌*◌, ◌/◌, ◌%◌, ◌<◌, ◌≤◌, false, List, get_or, refl, sym, ap, subst, ◌∙◌, inl, inr, arith}
+use Rattle.o2_world.specs.Heaps.{Heap, units, is_free}
+use Rattle.o2_subseg.proofs.Chains.{AreLaid, IsHeap}
 use Rattle.o2_subseg.proofs.Units.{none_behind, one_form}
 use Rattle.o2_subseg.proofs.Done.{unit_is, lt_or}
 

@@ -1,16 +1,15 @@
 -- What a range that is freed leaves: the words of its plan give the bytes that all control words give.
-use Rattle.std.proofs.Common.{◌≡◌, ◌≢◌, ◌⊎◌, ℕ, ◌+◌, ◌-◌, ◌%◌, ◌<◌, ◌≤◌, Bool, true, false, ◌&&◌, ◌||◌, ◌==◌, nat_le, nat_lt, List, [], ◌∷◌, Option, Some, None, if◌then◌else◌, refl, sym, ap, subst, ◌∙◌, inl, inr, arith}
+use Rattle.std.proofs.Common.{◌≡◌, ◌≢◌, ℕ, ◌+◌, ◌<◌, ◌≤◌, Bool, true, false, ◌&&◌, ◌||◌, ◌==◌, nat_le, nat_lt, List, [], ◌∷◌, Option, Some, None, if◌then◌else◌, refl, sym, ap, subst, ◌∙◌, inl, arith}
 use Rattle.std.proofs.lemmas.Bool.Decides.{nat_tests}
 use Rattle.o2_subseg.specs.declared.block.Block.{Block}
-use Rattle.o2_subseg.specs.declared.scan.Seek.{Seek}
-use Rattle.o2_subseg.specs.declared.scan.Seek.TheVariants.{Length, Offset}
+use Rattle.o2_subseg.specs.declared.scan.Seek.TheVariants.{Offset}
 use Rattle.o2_subseg.specs.declared.scan.Spot.{Spot}
-use Rattle.o2_subseg.specs.Heaps.{Heap, word, put_word, put_words, first, block_words, controls, with_controls}
-use Rattle.o2_subseg.specs.Rulings.{insert, join, meets}
-use Rattle.o2_subseg.specs.Spots.{passes, spot_in, link_of, freed_words, more_at, next_at, at_first, spot_of}
-use Rattle.o2_subseg.proofs.Words.{HasWord, AreBytes, AreThere, word_there, put_keeps, put_there, put_all_there, skip}
-use Rattle.o2_subseg.proofs.Chains.{IsBlock, AreLaid, IsChain, IsHeap, laid_before}
-use Rattle.o2_subseg.proofs.Searches.{block, spot, passes_here, passes_later, EndsBefore, le_true, le_false, lt_false}
+use Rattle.o2_world.specs.Heaps.{Heap, word, put_word, put_words, first, block_words, with_controls}
+use Rattle.o2_world.specs.HeapRulings.{insert, join, meets}
+use Rattle.o2_subseg.specs.Spots.{spot_in, link_of, freed_words, more_at, next_at, spot_of}
+use Rattle.o2_subseg.proofs.Words.{AreThere, word_there, put_keeps, put_all_there, skip}
+use Rattle.o2_subseg.proofs.Chains.{AreLaid, IsChain, IsHeap}
+use Rattle.o2_subseg.proofs.Searches.{block, spot, passes_here, passes_later, EndsBefore, lt_false}
 use Rattle.o2_subseg.proofs.Takings.{words_kept}
 
 -- the words of a block, put at a link to it, before blocks whose words are there

@@ -1,13 +1,12 @@
 -- What DosSubAlloc takes is free and the lowest; and over calls nothing is taken twice.
-use Rattle.std.proofs.Common.{◌≡◌, ◌≢◌, ◌⊎◌, ℕ, ◌+◌, ◌-◌, ◌*◌, ◌/◌, ◌%◌, ◌<◌, ◌≤◌, Bool, true, false, not, ◌&&◌, ◌||◌, ◌==◌, nat_le, nat_lt, List, [], ◌∷◌, length, get_or, Option, Some, None, if◌then◌else◌, refl, sym, ap, subst, ◌∙◌, inl, inr, arith}
+use Rattle.std.proofs.Common.{◌≡◌, ◌≢◌, ◌⊎◌, ℕ, ◌+◌, ◌-◌, ◌*◌, ◌/◌, ◌<◌, ◌≤◌, Bool, true, false, not, ◌&&◌, ◌||◌, ◌==◌, nat_le, nat_lt, List, Option, Some, None, if◌then◌else◌, refl, sym, ap, subst, ◌∙◌, inl, inr, arith}
 use Rattle.std.proofs.lemmas.Bool.Decides.{nat_tests}
-use Rattle.o2_subseg.specs.Heaps.{AreBytes, Heap, heap_of, with_controls, controls, units, is_free}
-use Rattle.o2_subseg.specs.Rulings.{HeapRuling, refuses, leaves, rounded, area_of, take_from, setting_up, grown, growing, taken, taking_of, taking, giving_back_to, giving_back}
-use Rattle.o2_subseg.specs.Laws.{unit_at, is_among, AreFree, HasHeap, IsOutside, HeapCall, Grows, Takes, Returns, ruling_of, Runs, no_call, one_call, TakesUnit, takes, HasReturn}
-use Rattle.o2_subseg.proofs.Chains.{IsBlock, AreLaid, IsHeap, heap_read}
-use Rattle.o2_subseg.proofs.Units.{lies_in, none_behind, IsTakenBy, was_free, WasFree}
-use Rattle.o2_subseg.proofs.Written.{IsFit}
-use Rattle.o2_subseg.proofs.Done.{TakeDone, FreeDone, take_done, free_done, take_leaves, free_leaves, unit_is, unit_past, unit_inside, lt_or, differ, among, run_units, rounded_whole, taking_is, value_whole, is_le, not_le, not_lt, not_zero, no_less}
+use Rattle.o2_world.specs.Heaps.{AreBytes, Heap, heap_of, is_free}
+use Rattle.o2_world.specs.HeapRulings.{HeapRuling, refuses, leaves, rounded, area_of, take_from, setting_up, grown, growing, taken, taking_of, taking, giving_back_to, giving_back}
+use Rattle.o2_subseg.specs.Laws.{unit_at, is_among, AreFree, HasHeap, HeapCall, Grows, Takes, Returns, ruling_of, Runs, no_call, one_call, TakesUnit, takes, HasReturn}
+use Rattle.o2_subseg.proofs.Chains.{IsHeap, heap_read}
+use Rattle.o2_subseg.proofs.Units.{none_behind, was_free, WasFree}
+use Rattle.o2_subseg.proofs.Done.{TakeDone, take_done, free_done, take_leaves, free_leaves, unit_is, unit_inside, lt_or, differ, run_units, rounded_whole, taking_is, value_whole, not_le, not_zero, no_less}
 use Rattle.o2_subseg.proofs.Sets.{Outcome, SetDone, set_outcome, take_outcome, free_outcome, set_done, grow_leaves, growing_is}
 
 some_heap : (g h : Heap) → Some g ≡ Some h → g ≡ h

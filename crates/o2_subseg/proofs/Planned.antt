@@ -1,5 +1,5 @@
 -- Plans, by what a search of the heap found.
-use Rattle.std.proofs.Common.{◌≡◌, ◌≢◌, ◌⊎◌, ℕ, ◌+◌, ◌-◌, ◌*◌, ◌/◌, ◌%◌, ◌<◌, ◌≤◌, Bool, true, false, not, ◌&&◌, ◌||◌, ◌==◌, nat_le, nat_lt, List, [], ◌∷◌, length, take, Option, Some, None, option_map, if◌then◌else◌, refl, sym, ap, subst, ◌∙◌, inl, inr, arith}
+use Rattle.std.proofs.Common.{◌≡◌, ◌≢◌, ◌⊎◌, ℕ, ◌+◌, ◌-◌, ◌%◌, ◌<◌, ◌≤◌, Bool, true, false, not, ◌&&◌, ◌||◌, ◌==◌, nat_lt, List, [], ◌∷◌, length, take, Option, Some, None, option_map, if◌then◌else◌, refl, sym, ap, subst, ◌∙◌, inl, inr, arith}
 use Rattle.std.proofs.lemmas.Bool.{cases_lt}
 use Rattle.std.proofs.lemmas.Bool.Decides.{nat_tests}
 use Rattle.o2_subseg.specs.declared.block.Block.{Block}
@@ -7,15 +7,15 @@ use Rattle.o2_subseg.specs.declared.plan.Plan.{Plan}
 use Rattle.o2_subseg.specs.declared.scan.Seek.{Seek}
 use Rattle.o2_subseg.specs.declared.scan.Seek.TheVariants.{Length, Offset}
 use Rattle.o2_subseg.specs.declared.scan.Spot.{Spot}
-use Rattle.o2_subseg.specs.Heaps.{Heap, word, put_word, put_words, heap_of, first, block_words, controls, with_controls}
-use Rattle.o2_subseg.specs.Rulings.{HeapRuling, refuses, leaves, rounded, area_of, take_from, insert, meets, fresh, grown, growing, setting_up, taken, taking_of, taking, is_outside, giving_back_to, giving_back}
-use Rattle.o2_subseg.specs.Spots.{IsRange, IsRangeOf, passes, spot_of, spot_in, at_first, link_of, IsSpot, IsWithin, IsWithinOrNone, AreApart, is_met_by, taken_words, freed_words, more_at, next_at}
+use Rattle.o2_world.specs.Heaps.{Heap, word, put_words, heap_of, controls, with_controls}
+use Rattle.o2_world.specs.HeapRulings.{HeapRuling, refuses, leaves, rounded, area_of, take_from, insert, meets, fresh, grown, growing, setting_up, taken, taking_of, taking, is_outside, giving_back_to, giving_back}
+use Rattle.o2_subseg.specs.Spots.{IsRange, IsRangeOf, passes, spot_of, spot_in, at_first, link_of, IsSpot, IsWithin, IsWithinOrNone, is_met_by, taken_words, freed_words, more_at, next_at}
 use Rattle.o2_subseg.specs.Plans.{Plans, AreInside, words_of, fresh_words}
-use Rattle.o2_subseg.proofs.Words.{AreBytes, AreThere, put_all_there, word_there}
-use Rattle.o2_subseg.proofs.Chains.{IsBlock, AreLaid, IsChain, IsHeap, heap_read}
-use Rattle.o2_subseg.proofs.Searches.{block, spot, passes_here, passes_later, spot_size, met_beside, le_true, le_false, lt_false}
-use Rattle.o2_subseg.proofs.Takings.{Takes, IsTaken, heap_takes, with_header}
-use Rattle.o2_subseg.proofs.Joinings.{heap_frees, is_le, lt_true}
+use Rattle.o2_subseg.proofs.Words.{AreBytes, put_all_there, word_there}
+use Rattle.o2_subseg.proofs.Chains.{AreLaid, IsHeap, heap_read}
+use Rattle.o2_subseg.proofs.Searches.{block, spot, passes_here, passes_later, spot_size, met_beside, le_true, lt_false}
+use Rattle.o2_subseg.proofs.Takings.{Takes, heap_takes, with_header}
+use Rattle.o2_subseg.proofs.Joinings.{heap_frees}
 
 is_lt : (a b : ℕ) → a < b → nat_lt a b ≡ true
 is_lt a b h = grind (arith, nat_tests)

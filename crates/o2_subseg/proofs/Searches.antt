@@ -1,12 +1,12 @@
 -- Searches among blocks: that the blocks where one ends lie within the heap, and what a range meets.
-use Rattle.std.proofs.Common.{◌≡◌, ◌≢◌, ℕ, ◌+◌, ◌%◌, ◌<◌, ◌≤◌, Bool, true, false, ◌&&◌, ◌||◌, ◌==◌, nat_le, nat_lt, List, [], ◌∷◌, Option, Some, None, is_some, if◌then◌else◌, refl, sym, ap, subst, ◌∙◌, arith}
+use Rattle.std.proofs.Common.{◌≡◌, ℕ, ◌+◌, ◌%◌, ◌<◌, ◌≤◌, Bool, true, false, ◌&&◌, ◌||◌, nat_le, nat_lt, List, [], ◌∷◌, Option, Some, None, is_some, if◌then◌else◌, refl, sym, ap, subst, ◌∙◌, arith}
 use Rattle.std.proofs.lemmas.Bool.Decides.{nat_tests}
 use Rattle.o2_subseg.specs.declared.block.Block.{Block}
 use Rattle.o2_subseg.specs.declared.scan.Seek.{Seek}
-use Rattle.o2_subseg.specs.declared.scan.Seek.TheVariants.{Length, Offset}
+use Rattle.o2_subseg.specs.declared.scan.Seek.TheVariants.{Offset}
 use Rattle.o2_subseg.specs.declared.scan.Spot.{Spot}
-use Rattle.o2_subseg.specs.Rulings.{meets}
-use Rattle.o2_subseg.specs.Spots.{passes, behind, spot_in, at_first, IsWithin, IsWithinOrNone, AreApart, IsSpot, ends_behind, begins_before, is_met_by}
+use Rattle.o2_world.specs.HeapRulings.{meets}
+use Rattle.o2_subseg.specs.Spots.{passes, behind, spot_in, IsWithin, IsWithinOrNone, AreApart, IsSpot, ends_behind, is_met_by}
 use Rattle.o2_subseg.proofs.Chains.{IsBlock, AreLaid}
 
 -- the block of a pair

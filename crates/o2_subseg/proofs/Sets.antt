@@ -1,14 +1,14 @@
 -- What DosSubSet leaves, as units; and that a call which answers no 0 changes nothing.
-use Rattle.std.proofs.Common.{◌≡◌, ◌≢◌, ◌⊎◌, ℕ, ◌+◌, ◌-◌, ◌*◌, ◌/◌, ◌%◌, ◌<◌, ◌≤◌, Bool, true, false, not, ◌&&◌, ◌||◌, ◌==◌, nat_le, nat_lt, List, [], ◌∷◌, length, get_or, min, Option, Some, None, if◌then◌else◌, refl, sym, ap, subst, ◌∙◌, inl, inr, arith}
+use Rattle.std.proofs.Common.{◌≡◌, ◌≢◌, ◌⊎◌, ℕ, ◌+◌, ◌-◌, ◌*◌, ◌/◌, ◌%◌, ◌<◌, ◌≤◌, Bool, true, false, ◌||◌, ◌==◌, nat_le, nat_lt, List, [], ◌∷◌, length, min, Option, Some, None, if◌then◌else◌, refl, sym, ap, subst, ◌∙◌, inl, inr, arith}
 use Rattle.std.proofs.lemmas.Bool.Decides.{nat_tests}
-use Rattle.o2_subseg.specs.Heaps.{AreBytes, Heap, heap_of, with_controls, controls, units, is_free}
-use Rattle.o2_subseg.specs.Rulings.{HeapRuling, refuses, leaves, rounded, area_of, take_from, insert, meets, fresh, grown, growing, setting_up, taken, taking_of, taking, is_outside, giving_back_to, giving_back}
-use Rattle.o2_subseg.specs.Laws.{unit_at, is_among, AreFree, HasHeap, IsOutside}
-use Rattle.o2_subseg.proofs.Chains.{IsBlock, AreLaid, IsHeap, heap_read}
-use Rattle.o2_subseg.proofs.Units.{lies_in, none_behind, inserted_free, inserted_laid}
+use Rattle.o2_world.specs.Heaps.{Heap, heap_of, with_controls, is_free}
+use Rattle.o2_world.specs.HeapRulings.{HeapRuling, refuses, leaves, rounded, area_of, take_from, insert, meets, fresh, grown, growing, setting_up, taken, taking_of, taking, is_outside, giving_back_to, giving_back}
+use Rattle.o2_subseg.specs.Laws.{unit_at, HasHeap}
+use Rattle.o2_subseg.proofs.Chains.{IsBlock, AreLaid, IsHeap}
+use Rattle.o2_subseg.proofs.Units.{lies_in, inserted_free, inserted_laid}
 use Rattle.o2_subseg.proofs.Written.{IsFit, written_read, others_stay}
 use Rattle.o2_subseg.proofs.Planned.{end_clear, controls_there}
-use Rattle.o2_subseg.proofs.Done.{unit_is, unit_past, le_or, same_le, is_le, not_le, differ, no_less, turned, among, equal}
+use Rattle.o2_subseg.proofs.Done.{unit_is, le_or, is_le, not_le, no_less, turned, equal}
 
 min_whole : (n : ℕ) → min 65532 (n * 4) % 4 ≡ 0
 min_whole n = omega arith

@@ -1,16 +1,15 @@
 -- What a block that is taken leaves: the words of its plan give the bytes that all control words give.
-use Rattle.std.proofs.Common.{◌≡◌, ◌≢◌, ◌⊎◌, ℕ, ◌+◌, ◌-◌, ◌%◌, ◌<◌, ◌≤◌, Bool, true, false, ◌==◌, nat_le, List, [], ◌∷◌, Option, Some, None, option_map, if◌then◌else◌, refl, sym, ap, subst, ◌∙◌, inl, inr, arith}
+use Rattle.std.proofs.Common.{◌≡◌, ℕ, ◌+◌, ◌-◌, ◌%◌, ◌<◌, ◌≤◌, Bool, true, false, ◌==◌, nat_le, List, [], ◌∷◌, Option, Some, None, option_map, if◌then◌else◌, refl, sym, ap, subst, ◌∙◌, inl, arith}
 use Rattle.std.proofs.lemmas.Bool.Decides.{nat_tests}
 use Rattle.o2_subseg.specs.declared.block.Block.{Block}
-use Rattle.o2_subseg.specs.declared.scan.Seek.{Seek}
-use Rattle.o2_subseg.specs.declared.scan.Seek.TheVariants.{Length, Offset}
+use Rattle.o2_subseg.specs.declared.scan.Seek.TheVariants.{Length}
 use Rattle.o2_subseg.specs.declared.scan.Spot.{Spot}
-use Rattle.o2_subseg.specs.Heaps.{Heap, word, put_word, put_words, first, block_words, controls, with_controls}
-use Rattle.o2_subseg.specs.Rulings.{take_from, taken, HeapRuling}
-use Rattle.o2_subseg.specs.Spots.{passes, spot_in, link_of, taken_words, at_first, spot_of}
-use Rattle.o2_subseg.proofs.Words.{HasWord, AreBytes, AreThere, word_there, put_keeps, put_there, put_all_there, skip}
-use Rattle.o2_subseg.proofs.Chains.{IsBlock, AreLaid, IsChain, IsHeap, laid_before}
-use Rattle.o2_subseg.proofs.Searches.{block, spot, passes_here, passes_later, le_true, le_false}
+use Rattle.o2_world.specs.Heaps.{Heap, word, put_word, put_words, first, block_words, with_controls}
+use Rattle.o2_world.specs.HeapRulings.{take_from}
+use Rattle.o2_subseg.specs.Spots.{spot_in, link_of, taken_words, spot_of}
+use Rattle.o2_subseg.proofs.Words.{AreThere, word_there, put_keeps, put_all_there, skip}
+use Rattle.o2_subseg.proofs.Chains.{AreLaid, IsChain, IsHeap}
+use Rattle.o2_subseg.proofs.Searches.{block, spot, passes_here, passes_later, le_true}
 
 -- words of blocks stay where a word before them is put
 pub words_kept : (bytes : List ℕ) (size low at w : ℕ) (bs : List (ℕ × ℕ)) → at + 2 ≤ low → AreLaid size low bs

@@ -1,9 +1,9 @@
 -- Free bytes of blocks: behind a block that is taken, behind a range that is freed, and that one list of them has one form.
-use Rattle.std.proofs.Common.{◌≡◌, ◌≢◌, ◌⊎◌, ℕ, ◌+◌, ◌-◌, ◌*◌, ◌/◌, ◌%◌, ◌<◌, ◌≤◌, Bool, true, false, not, ◌&&◌, ◌||◌, ◌==◌, nat_le, nat_lt, List, [], ◌∷◌, Option, Some, None, option_map, if◌then◌else◌, refl, sym, ap, subst, ◌∙◌, inl, inr, arith}
+use Rattle.std.proofs.Common.{◌≡◌, ◌≢◌, ◌⊎◌, ℕ, ◌+◌, ◌-◌, ◌%◌, ◌<◌, ◌≤◌, Bool, true, false, not, ◌&&◌, ◌||◌, ◌==◌, nat_le, nat_lt, List, [], ◌∷◌, Option, Some, None, option_map, if◌then◌else◌, refl, sym, ap, subst, ◌∙◌, inl, inr, arith}
 use Rattle.std.proofs.lemmas.Bool.{cases_lt}
 use Rattle.std.proofs.lemmas.Bool.Decides.{nat_tests}
-use Rattle.o2_subseg.specs.Heaps.{is_free, first}
-use Rattle.o2_subseg.specs.Rulings.{take_from, insert, join, meets}
+use Rattle.o2_world.specs.Heaps.{is_free}
+use Rattle.o2_world.specs.HeapRulings.{take_from, insert, join, meets}
 use Rattle.o2_subseg.proofs.Chains.{IsBlock, AreLaid, laid_before}
 use Rattle.o2_subseg.proofs.Joinings.{is_le, lt_true, clear_first, clear_rest, clear_behind, ends_before, begins_behind}
 use Rattle.o2_subseg.proofs.Searches.{lt_false}

@@ -1,17 +1,17 @@
 -- One step of a walk along a chain, and what a walk tells of the heap.
-use Rattle.std.proofs.Common.{◌≡◌, ◌≢◌, ℕ, zero, suc, ◌+◌, ◌-◌, ◌/◌, ◌%◌, ◌<◌, ◌≤◌, ◌^◌, Bool, true, false, ◌==◌, List, [], ◌∷◌, length, take, get_or, Option, Some, None, IfSome, option_map, if◌then◌else◌, refl, sym, ap, subst, ◌∙◌, add-one, arith}
+use Rattle.std.proofs.Common.{◌≡◌, ◌≢◌, ℕ, zero, suc, ◌+◌, ◌/◌, ◌%◌, ◌<◌, ◌≤◌, Bool, true, false, ◌==◌, List, [], ◌∷◌, length, take, get_or, Option, Some, None, IfSome, option_map, if◌then◌else◌, refl, sym, ap, subst, ◌∙◌, add-one, arith}
 use Rattle.std.proofs.lemmas.Bool.Decides.{nat_tests}
 use Rattle.o2_subseg.specs.declared.block.Block.{Block}
 use Rattle.o2_subseg.specs.declared.scan.Seek.{Seek}
 use Rattle.o2_subseg.specs.declared.scan.Spot.{Spot}
 use Rattle.o2_subseg.specs.declared.scan.Link.{Link}
 use Rattle.o2_subseg.specs.declared.scan.Link.TheVariants.{End, Bad, To}
-use Rattle.o2_subseg.specs.Heaps.{Heap, word, put_word, put_words, is_block, chain_from, is_header, heap_of}
-use Rattle.o2_subseg.specs.Spots.{behind, spot_in, spot_of, at_first, link_at, IsSpot}
+use Rattle.o2_world.specs.Heaps.{Heap, word, put_word, put_words, is_block, chain_from, is_header, heap_of}
+use Rattle.o2_subseg.specs.Spots.{behind, passes, spot_in, spot_of, at_first, link_at, IsSpot}
 use Rattle.o2_subseg.specs.Plans.{AreInside}
 use Rattle.o2_subseg.proofs.Words.{AreBytes, word_small}
 use Rattle.o2_subseg.proofs.Chains.{IsBlock, IsHeader, IsHeap, block_tells, block_told, header_tells, header_told, heap_read}
-use Rattle.o2_subseg.proofs.Searches.{spot_whole, spot_size}
+use Rattle.o2_subseg.proofs.Searches.{found_stays, spot, spot_whole, spot_size}
 
 no_truth : (b : Bool) → (b ≡ true → ⊥) → b ≡ false
 no_truth true h = absurd (h refl)
@@ -164,6 +164,88 @@ walk_fails bytes seek size low link (suc n) s h em =
 pub walk_done : (bytes : List ℕ) (seek : Seek) (size low link m : ℕ) (s : Spot) → m ≡ 0
     → None ≡ option_map (λ bs. spot_in seek s bs) (chain_from m bytes size low link)
 walk_done bytes seek size low link m s e = ap (λ k. option_map (λ bs. spot_in seek s bs) (chain_from k bytes size low link)) (sym e)
+
+-- a search that has passed no block, and one that ends at a block
+pub behind_passed : (seek : Seek) (size : ℕ) (before : Option Block) (b : Block) → passes seek b ≡ false
+    → spot size (Some b) None ≡ behind seek (spot size before None) b
+behind_passed seek size before b e = rw e refl
+
+behind_found : (seek : Seek) (size : ℕ) (before : Option Block) (b : Block) → passes seek b ≡ true
+    → spot size before (Some b) ≡ behind seek (spot size before None) b
+behind_found seek size before b e = rw e refl
+
+found_over : (seek : Seek) (size : ℕ) (before : Option Block) (b : Block) (chain : Option (List (ℕ × ℕ)))
+    → option_map (λ bs. spot size before (Some b)) chain ≡ option_map (λ bs. spot_in seek (spot size before (Some b)) bs) chain
+found_over seek size before b None = refl
+found_over seek size before b (Some bs) = ap Some (sym (found_stays seek size before b bs))
+
+-- a walk that ends at a block, where the chain behind it is good
+pub walk_found : (bytes : List ℕ) (seek : Seek) (size low link n m : ℕ) (before : Option Block) (b : Block) → To b ≡ link_at bytes size low link
+    → passes seek b ≡ true → m ≡ suc n
+    → option_map (λ bs. spot size before (Some b)) (chain_from n bytes size (b.offset + b.length + 1) b.offset)
+    ≡ option_map (λ bs. spot_in seek (spot size before None) bs) (chain_from m bytes size low link)
+walk_found bytes seek size low link n m before b h e em =
+    found_over seek size before b (chain_from n bytes size (b.offset + b.length + 1) b.offset)
+    ∙ sym (walk_on bytes seek size low link n m (b.offset + b.length + 1) b.offset (spot size before None) (spot size before (Some b)) b h
+    (behind_found seek size before b e) refl refl em)
+
+over_rest : (s : Spot) (at len : ℕ) (rest : Option (List (ℕ × ℕ)))
+    → option_map (λ bs. s) (option_map (λ bs. (at, len) ∷ bs) rest) ≡ option_map (λ bs. s) rest
+over_rest s at len None = refl
+over_rest s at len (Some bs) = refl
+
+rest_to : (s : Spot) (end good : Bool) (b c : Block) (at len : ℕ) (rest : Option (List (ℕ × ℕ))) → To b ≡ said end good c
+    → option_map (λ bs. s) (chained end good at len rest) ≡ option_map (λ bs. s) rest
+rest_to s true good b c at len rest h = cc
+rest_to s false true b c at len rest h = over_rest s at len rest
+rest_to s false false b c at len rest h = cc
+
+-- the rest of a chain that begins
+pub rest_begins : (s : Spot) (bytes : List ℕ) (size n m low low2 link : ℕ) → m ≡ n → low2 ≡ low
+    → option_map (λ bs. s) (chain_from n bytes size low link) ≡ option_map (λ bs. s) (chain_from m bytes size low2 link)
+rest_begins s bytes size n m low low2 link e f =
+    ap (λ k. option_map (λ bs. s) (chain_from k bytes size low link)) (sym e)
+    ∙ ap (λ k. option_map (λ bs. s) (chain_from m bytes size k link)) (sym f)
+
+-- the rest of a chain that goes on behind a block
+pub rest_on : (s : Spot) (bytes : List ℕ) (size low link n m low2 link2 : ℕ) (b : Block) → To b ≡ link_at bytes size low link
+    → low2 ≡ b.offset + b.length + 1 → link2 ≡ b.offset → m ≡ suc n
+    → option_map (λ bs. s) (chain_from m bytes size low link) ≡ option_map (λ bs. s) (chain_from n bytes size low2 link2)
+rest_on s bytes size low link n m low2 link2 b h el ek em =
+    let at = word bytes link in
+    let len = word bytes (at + 2) in
+    let e = to_block (at == 0) (is_block size low at len) b at len h in
+    let step = rest_to s (at == 0) (is_block size low at len) b (record { offset = at; length = len }) at len (chain_from n bytes size (at + len + 1) at) h in
+    let low_is : at + len + 1 ≡ low2 = omega (arith, e.0, e.1, el) in
+    let link_is : at ≡ link2 = omega (arith, e.0, ek) in
+    ap (λ k. option_map (λ bs. s) (chain_from k bytes size low link)) em
+    ∙ step
+    ∙ ap (λ k. option_map (λ bs. s) (chain_from n bytes size k at)) low_is
+    ∙ ap (λ k. option_map (λ bs. s) (chain_from n bytes size low2 k)) link_is
+
+-- the rest of a chain that ends
+pub rest_ends : (s : Spot) (bytes : List ℕ) (size low link m : ℕ) → End ≡ link_at bytes size low link → 1 ≤ m
+    → Some s ≡ option_map (λ bs. s) (chain_from m bytes size low link)
+rest_ends s bytes size low link zero h em = absurd (omega arith)
+rest_ends s bytes size low link (suc n) h em =
+    let at = word bytes link in
+    let len = word bytes (at + 2) in
+    let e = chained_end (at == 0) (is_block size low at len) (record { offset = at; length = len }) at len (chain_from n bytes size (at + len + 1) at) h in
+    ap (option_map (λ bs. s)) e
+
+-- the rest of a chain with what is no block
+pub rest_fails : (s : Spot) (bytes : List ℕ) (size low link m : ℕ) → Bad ≡ link_at bytes size low link → 1 ≤ m
+    → None ≡ option_map (λ bs. s) (chain_from m bytes size low link)
+rest_fails s bytes size low link zero h em = absurd (omega arith)
+rest_fails s bytes size low link (suc n) h em =
+    let at = word bytes link in
+    let len = word bytes (at + 2) in
+    let e = chained_bad (at == 0) (is_block size low at len) (record { offset = at; length = len }) at len (chain_from n bytes size (at + len + 1) at) h in
+    ap (option_map (λ bs. s)) e
+
+-- the rest of a chain that is too long
+pub rest_done : (s : Spot) (bytes : List ℕ) (size low link m : ℕ) → m ≡ 0 → None ≡ option_map (λ bs. s) (chain_from m bytes size low link)
+rest_done s bytes size low link m e = ap (λ k. option_map (λ bs. s) (chain_from k bytes size low link)) (sym e)
 
 heap_over : (seek : Seek) (size : ℕ) (chain : Option (List (ℕ × ℕ)))
     → option_map (λ bs. spot_in seek (at_first size) bs) chain ≡ option_map (spot_of seek) (option_map {U = Heap} (λ bs. record { size = size; blocks = bs }) chain)

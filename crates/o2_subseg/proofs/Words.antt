@@ -1,8 +1,8 @@
 -- Words among bytes: what a word that is put leaves, and words that are there already.
 use Rattle.std.proofs.Common.{◌≡◌, ◌≢◌, ◌⊎◌, ℕ, ◌+◌, ◌*◌, ◌/◌, ◌%◌, ◌<◌, ◌≤◌, List, [], ◌∷◌, length, get_or, set, refl, sym, ap, subst, ◌∙◌, inl, inr, arith}
 use Rattle.std.proofs.lemmas.List.{get_or-set_same, get_or-set_other, set-get_or, length-set}
-use Rattle.o2_subseg.specs.Heaps.{word, put_word, put_words}
-pub use Rattle.o2_subseg.specs.Heaps.{AreBytes}
+use Rattle.o2_world.specs.Heaps.{word, put_word, put_words}
+pub use Rattle.o2_world.specs.Heaps.{AreBytes}
 
 -- the two bytes of a word are at its place
 pub record HasWord (bytes : List ℕ) (at w : ℕ) : Type 0 where
@@ -28,10 +28,6 @@ word_there bytes at w h =
 
 pub there_at : (bytes : List ℕ) (at w : ℕ) → AreBytes bytes → word bytes at ≡ w → HasWord bytes at w
 there_at bytes at w b e = let P : ℕ → Type 0 = λ v. HasWord bytes at v in subst P e (word_is_there bytes at b)
-
-pub put_length : (bytes : List ℕ) (w : ℕ × ℕ) → length (put_word bytes w) ≡ length bytes
-unfolding put_word
-put_length bytes (at, w) = length-set (set bytes at (w % 256)) (at + 1) (w / 256) ∙ length-set bytes at (w % 256)
 
 -- a word that is there may be put
 pub put_there : (bytes : List ℕ) (at w : ℕ) → HasWord bytes at w → put_word bytes (at, w) ≡ bytes

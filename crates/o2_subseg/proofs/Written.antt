@@ -1,9 +1,10 @@
 -- A heap whose control words are written is read again, and no other byte changes.
-use Rattle.std.proofs.Common.{◌≡◌, ◌≢◌, ◌⊎◌, ℕ, ◌+◌, ◌-◌, ◌%◌, ◌<◌, ◌≤◌, List, [], ◌∷◌, length, get_or, Option, Some, None, refl, sym, ap, subst, ◌∙◌, inl, inr, arith}
-use Rattle.o2_subseg.specs.Heaps.{Heap, word, put_word, put_words, heap_of, first, block_words, controls, with_controls}
+use Rattle.std.proofs.Common.{◌≡◌, ℕ, ◌+◌, ◌%◌, ◌≤◌, List, [], ◌∷◌, length, get_or, Some, refl, ◌∙◌, inl, inr, arith}
+use Rattle.o2_world.specs.Heaps.{Heap, put_word, put_words, heap_of, first, block_words, controls, with_controls}
+use Rattle.o2_world.proofs.HeapSizes.{put_length, words_length}
 use Rattle.o2_subseg.specs.Laws.{IsOutside}
-use Rattle.o2_subseg.proofs.Words.{HasWord, AreThere, put_has, put_keeps, put_length, put_stays}
-use Rattle.o2_subseg.proofs.Chains.{IsBlock, AreLaid, IsChain, IsHeap, heap_written}
+use Rattle.o2_subseg.proofs.Words.{HasWord, AreThere, put_has, put_keeps, put_stays}
+use Rattle.o2_subseg.proofs.Chains.{AreLaid, IsHeap, heap_written}
 
 -- a heap that may stand in so many bytes
 pub record IsFit (n : ℕ) (h : Heap) : Type 0 where
@@ -22,10 +23,6 @@ blocks_keep bytes size low q v ((p, n) ∷ bs) h l w =
     let w1 = put_keeps bytes (p + 2) n q v (inr (omega (arith, b, h))) w in
     let w2 = put_keeps b1 p (first bs) q v (inr (omega (arith, b, h))) w1 in
     blocks_keep (put_word b1 (p, first bs)) size (p + n + 1) q v bs (omega (arith, b, h)) l.1 w2
-
-blocks_length : (bytes : List ℕ) (ws : List (ℕ × ℕ)) → length (put_words bytes ws) ≡ length bytes
-blocks_length bytes [] = refl
-blocks_length bytes (w ∷ ws) = blocks_length (put_word bytes w) ws ∙ put_length bytes w
 
 -- the words of blocks are there behind they were put
 blocks_there : (bytes : List ℕ) (size low : ℕ) (bs : List (ℕ × ℕ)) → size ≤ length bytes → AreLaid size low bs
@@ -76,7 +73,7 @@ written_there bytes h i =
       zero_word = blocks_keep b3 h.size 8 6 0 h.blocks (omega arith) i.laid zero3;
       whole = i.whole;
       low = i.low;
-      within = omega (arith, i.within, n0, n1, n2, n3, blocks_length b3 (block_words h.blocks));
+      within = omega (arith, i.within, n0, n1, n2, n3, words_length b3 (block_words h.blocks));
       chain = record {
         laid = i.laid;
         linked = blocks_keep b3 h.size 8 4 f h.blocks (omega arith) i.laid link3;
@@ -99,4 +96,4 @@ others_stay bytes h i o = words_stay bytes i (controls h) o
 
 pub written_length : (bytes : List ℕ) (h : Heap) → length (with_controls h bytes) ≡ length bytes
 unfolding with_controls
-written_length bytes h = blocks_length bytes (controls h)
+written_length bytes h = words_length bytes (controls h)

@@ -1,7 +1,7 @@
 -- What the laws on heaps say: units by their number, and sequences of calls.
 use Rattle.std.specs.Prelude.{◌≡◌, ℕ, ◌+◌, ◌/◌, ◌<◌, ◌≤◌, ◌⊎◌, Bool, true, false, ◌&&◌, nat_le, nat_lt, List, [], ◌∷◌, slice_index, slice_index_or, Some}
-use Rattle.o2_subseg.specs.Heaps.{AreBytes, Heap, controls, heap_of, units}
-use Rattle.o2_subseg.specs.Rulings.{HeapRuling, rounded, setting_up, taking, giving_back}
+use Rattle.o2_world.specs.Heaps.{AreBytes, Heap, controls, heap_of, units}
+use Rattle.o2_world.specs.HeapRulings.{HeapRuling, rounded, setting_up, taking, giving_back}
 
 -- whether a unit of a heap is free
 abbrev pub unit_at : Heap → ℕ → Bool

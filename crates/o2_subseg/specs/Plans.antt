@@ -1,8 +1,8 @@
 -- What a plan of a call on a heap says.
 use Rattle.std.specs.Prelude.{◌≡◌, ℕ, ◌+◌, ◌-◌, ◌≤◌, List, [], ◌∷◌, length, take}
 use Rattle.o2_subseg.specs.declared.plan.Plan.{Plan}
-use Rattle.o2_subseg.specs.Heaps.{put_words}
-use Rattle.o2_subseg.specs.Rulings.{HeapRuling}
+use Rattle.o2_world.specs.Heaps.{put_words}
+use Rattle.o2_world.specs.HeapRulings.{HeapRuling}
 
 -- the words of a plan, each with its place
 abbrev pub words_of : Plan → List (ℕ × ℕ)

@@ -1,12 +1,12 @@
 -- Where a search among free blocks ends.
-use Rattle.std.specs.Prelude.{◌≡◌, ◌≢◌, ℕ, ◌+◌, ◌-◌, ◌%◌, ◌<◌, ◌≤◌, Bool, true, false, ◌||◌, ◌==◌, nat_le, nat_lt, List, [], ◌∷◌, Option, Some, None, is_some, if◌then◌else◌}
+use Rattle.std.specs.Prelude.{◌≡◌, ◌≢◌, ℕ, ◌+◌, ◌-◌, ◌%◌, ◌<◌, ◌≤◌, Bool, false, ◌||◌, ◌==◌, nat_le, nat_lt, List, [], ◌∷◌, Option, Some, None, is_some, if◌then◌else◌}
 use Rattle.o2_subseg.specs.declared.block.Block.{Block}
 use Rattle.o2_subseg.specs.declared.scan.Seek.{Seek}
 use Rattle.o2_subseg.specs.declared.scan.Seek.TheVariants.{Length, Offset}
 use Rattle.o2_subseg.specs.declared.scan.Spot.{Spot}
 use Rattle.o2_subseg.specs.declared.scan.Link.{Link}
 use Rattle.o2_subseg.specs.declared.scan.Link.TheVariants.{End, Bad, To}
-use Rattle.o2_subseg.specs.Heaps.{Heap, word, is_block}
+use Rattle.o2_world.specs.Heaps.{Heap, word, is_block}
 
 -- the block ends a search
 abbrev pub passes : Seek → Block → Bool

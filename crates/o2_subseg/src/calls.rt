@@ -1,8 +1,8 @@
 // The three calls over a segment's bytes.
 ghost use Rattle.std.specs.Prelude.{◌≡◌, ◌≤◌, length};
-ghost use Rattle.o2_subseg.specs.Heaps.{put_words};
+ghost use Rattle.o2_world.specs.Heaps.{put_words};
 ghost use Rattle.o2_subseg.specs.Plans.{AreInside, words_of};
-ghost use Rattle.o2_subseg.specs.Rulings.{giving_back, setting_up, taking};
+ghost use Rattle.o2_world.specs.HeapRulings.{giving_back, setting_up, taking};
 
 use crate::bytes::store;
 use crate::plan::Plan;

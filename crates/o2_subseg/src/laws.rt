@@ -1,7 +1,7 @@
 // What holds of every heap, and over any calls on one.
 ghost use Rattle.std.specs.Prelude.{◌≡◌, ◌≢◌, ℕ, ◌+◌, ◌-◌, ◌/◌, ◌<◌, ◌≤◌, ◌&&◌, ◌||◌, not, nat_le, List, ◌∷◌, [], Some};
-ghost use Rattle.o2_subseg.specs.Heaps.{AreBytes, Heap, controls, heap_of, units};
-ghost use Rattle.o2_subseg.specs.Rulings.{HeapRuling, area_of, giving_back, rounded, setting_up, taking};
+ghost use Rattle.o2_world.specs.Heaps.{AreBytes, Heap, controls, heap_of, units};
+ghost use Rattle.o2_world.specs.HeapRulings.{HeapRuling, area_of, giving_back, rounded, setting_up, taking};
 ghost use Rattle.o2_subseg.specs.Laws.{AreFree, HasHeap, HasReturn, HeapCall, Runs, TakesUnit, is_among, ruling_of, unit_at};
 
 /// Two good heaps of one size and one list of units have the same control words.

@@ -1,8 +1,8 @@
 // What each call answers and writes, by one walk along the chain of free blocks.
 ghost use Rattle.std.specs.Prelude.{◌≡◌, ◌+◌, ◌-◌, ◌%◌, ◌<◌, ◌≤◌, length, false, ◌∷◌, option_map, MatchOption, Some};
-ghost use Rattle.o2_subseg.specs.Heaps.{heap_of};
+ghost use Rattle.o2_world.specs.Heaps.{heap_of};
 ghost use Rattle.o2_subseg.specs.Plans.{Plans, fresh_words, words_of};
-ghost use Rattle.o2_subseg.specs.Rulings.{area_of, giving_back, growing, rounded as rounded_by, setting_up, taking};
+ghost use Rattle.o2_world.specs.HeapRulings.{area_of, giving_back, growing, rounded as rounded_by, setting_up, taking};
 ghost use Rattle.o2_subseg.specs.Spots.{IsRange, IsRangeOf, IsSpot, IsWithin, IsWithinOrNone, freed_words, is_met_by, more_at, next_at, spot_of, taken_words};
 
 use crate::block::Block;
@@ -25,7 +25,7 @@ pub const BAD_SIZE: u16 = 313;
 pub const BAD_FLAGS: u16 = 314;
 
 // A size, rounded up to a multiple of 4.
-#[tactic(auto, unfolding(crate::specs::Rulings::rounded))]
+#[tactic(auto, unfolding(o2_world::specs::HeapRulings::rounded))]
 fn rounded(size: u16) -> u32
     ensures is { result ≡ rounded_by size }
     ensures most { result ≤ size + 3 }

@@ -1,7 +1,7 @@
 // One walk along the chain of free blocks, which tells whether the heap is good and where a search ends.
 ghost use Rattle.std.specs.Prelude.{◌≡◌, ◌+◌, ◌/◌, ◌≤◌, length, option_map, IfSome, if◌then◌else◌, Some, None};
-ghost use Rattle.o2_subseg.specs.Heaps.{heap_of, chain_from, is_header, word as word_at};
-ghost use Rattle.o2_subseg.specs.Spots.{passes as passes_by, behind as behind_by, at_first, link_of, spot_in, spot_of, link_at, IsSpot};
+ghost use Rattle.o2_world.specs.Heaps.{heap_of, chain_from, is_header, word as word_at};
+ghost use Rattle.o2_subseg.specs.Spots.{passes as passes_by, at_first, link_of, spot_in, spot_of, link_at, IsSpot};
 
 use crate::block::Block;
 use crate::bytes::word;
@@ -59,27 +59,6 @@ impl Seek {
 }
 
 impl Spot {
-    // Where the search is behind one more block.
-    fn behind(self, seek: Seek, block: Block) -> Spot
-        ensures { result ≡ behind_by seek self block }
-    {
-        if self.found.is_some() {
-            self
-        } else if seek.passes(block) {
-            Spot {
-                size: self.size,
-                before: self.before,
-                found: Some(block),
-            }
-        } else {
-            Spot {
-                size: self.size,
-                before: Some(block),
-                found: self.found,
-            }
-        }
-    }
-
     /// Where the offset of the block stands that ended the search.
     pub fn link(self) -> u16
         ensures { result ≡ link_of self.before }
@@ -130,25 +109,56 @@ fn heap_size(bytes: &[u8]) -> Option<u16>
     Some(size)
 }
 
+// A search that ended at a block; None where the chain behind isn't good, or has this count of blocks or more.
+fn end_at(bytes: &[u8], count: u16, spot: Spot, block: Block) -> Option<Spot>
+    requires inside { block.offset + 2 ≤ spot.size }
+    requires within { spot.size ≤ length bytes.now }
+    ensures { result ≡ option_map (λ bs. spot) (chain_from count bytes.now spot.size (block.offset + block.length + 1) block.offset) }
+{
+    let mut link = block.offset;
+    let mut low = block.end() + 1;
+    for _passed in 0..count {
+        match link_to(bytes, spot.size, low, link) {
+            Link::End => return Some(spot),
+            Link::Bad => return None,
+            Link::To(next) => {
+                link = next.offset;
+                low = next.end() + 1;
+            }
+        }
+    }
+    None
+}
+
 // Where a search along the chain ends; None where a block isn't good.
 fn walk(bytes: &[u8], size: u16, seek: Seek) -> Option<Spot>
     requires low { 12 ≤ size }
     requires within { size ≤ length bytes.now }
     ensures { result ≡ option_map (λ bs. spot_in seek (at_first size) bs) (chain_from (size / 4) bytes.now size 8 4) }
 {
-    let mut spot = Spot {
-        size,
-        before: None,
-        found: None,
-    };
+    let mut before: Option<Block> = None;
     let mut link = FIRST_LINK;
     let mut low = u32::from(FIRST_OFFSET);
-    for _passed in 0..size / 4 {
+    for passed in 0..size / 4 {
         match link_to(bytes, size, low, link) {
-            Link::End => return Some(spot),
+            Link::End => {
+                return Some(Spot {
+                    size,
+                    before,
+                    found: None,
+                });
+            }
             Link::Bad => return None,
             Link::To(block) => {
-                spot = spot.behind(seek, block);
+                if seek.passes(block) {
+                    let spot = Spot {
+                        size,
+                        before,
+                        found: Some(block),
+                    };
+                    return end_at(bytes, size / 4 - passed - 1, spot, block);
+                }
+                before = Some(block);
                 link = block.offset;
                 low = block.end() + 1;
             }

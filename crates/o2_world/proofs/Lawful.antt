@@ -2,49 +2,29 @@
 use Rattle.std.proofs.Common.{◌≡◌, ◌≤◌, ◌==◌, ◌&&◌, ℕ, Bool, true, false, cond, List, [], ◌∷◌, length, take, refl, arith}
 use Rattle.std.proofs.lemmas.Grind.{common_steps}
 use Rattle.o2_isa.specs.declared.cpu.Cpu.{Cpu}
+use Rattle.o2_isa.specs.View.{View}
 use Rattle.o2_world.specs.declared.types.Slot.{Slot}
-use Rattle.o2_world.specs.declared.types.Slot.TheVariants.{Word, Reads, Writes, Text, ToWord, ToLong, ToWords}
-use Rattle.o2_world.specs.CallParts.{Before}
+use Rattle.o2_world.specs.declared.types.Slot.TheVariants.{Word, Reads, ToWord, ToWords, Heap}
+use Rattle.o2_world.specs.CallParts.{Before, word_bytes}
 use Rattle.o2_world.specs.Rulings.{Ruling, grants}
 use Rattle.o2_world.specs.HugeRulings.{huge_shift}
-use Rattle.o2_world.specs.Slots.{Pointer, parts_in, targets_in}
+use Rattle.o2_world.specs.HeapRulings.{HeapRuling, giving_back, setting_up, taking}
+use Rattle.o2_world.specs.Slots.{Pointer, are_good, may_have_heap, pointers_in, targets_in, words_in}
 use Rattle.o2_world.specs.Outcomes.{Outcome, row, ruled}
-use Rattle.o2_world.specs.Calls.{exiting, is_console, read_slots, reading, rows, telling_pid, writing}
+use Rattle.o2_world.specs.Calls.{exiting, heap_bytes, is_console, on_heap, read_slots, reading, rows, telling_pid, writing}
 use Rattle.o2_world.specs.Moves.{AllMoves, NoneMoves, OwnMoves}
 use Rattle.o2_world.specs.RowLaws.{AreFitParts, EachRow, IsFitOutcome, IsLawful, OutcomeMoves, RuledMoves}
+use Rattle.o2_world.proofs.Fits.{are_of_value, fewer_fit, first_fits, heap_fits, value_fits}
+use Rattle.o2_world.proofs.HeapSizes.{KeepsCount, giving_count, setting_count, taking_count}
 use Rattle.o2_world.proofs.SegmentMoves.{aliasing_is, allocation_is, freeing_by_is, locking_is, reallocation_is, sizing_is, unlocking_is}
 use Rattle.o2_world.proofs.SharedMoves.{getting_is, giving_is, naming_is, sharing_is}
 use Rattle.o2_world.proofs.HugeMoves.{huge_allocation_is, huge_reallocation_is}
 
 -- the row of a ruling
 
--- each pointer that is for writing is one behind which the value goes
-abbrev is_of_value : Slot → Bool
-is_of_value Word = true
-is_of_value Reads = true
-is_of_value Writes = false
-is_of_value Text = true
-is_of_value ToWord = true
-is_of_value ToLong = true
-is_of_value (ToWords count) = false
-
-abbrev are_of_value : List Slot → Bool
-are_of_value [] = true
-are_of_value (s ∷ ss) = is_of_value s && are_of_value ss
-
-value_fits : (ss : List Slot) (a : ℕ → ℕ) (value : ℕ) → are_of_value ss ≡ true → AreFitParts (targets_in ss a) (parts_in ss value)
-value_fits [] a value e = tt
-value_fits (Word ∷ ss) a value e = value_fits ss a value e
-value_fits (Reads ∷ ss) a value e = value_fits ss a value e
-value_fits (Writes ∷ ss) a value e = absurd (cc)
-value_fits (Text ∷ ss) a value e = value_fits ss a value e
-value_fits (ToWord ∷ ss) a value e = (omega arith, value_fits ss a value e)
-value_fits (ToLong ∷ ss) a value e = (omega arith, value_fits ss a value e)
-value_fits (ToWords count ∷ ss) a value e = absurd (cc)
-
-either_fits : (ps : List Pointer) (t : Bool) (o q : Outcome) → IsFitOutcome ps o → IsFitOutcome ps q → IsFitOutcome ps (cond t o q)
-either_fits ps true o q h k = h
-either_fits ps false o q h k = k
+either_fits : (v : View) (ps : List Pointer) (t : Bool) (o q : Outcome) → (t ≡ true → IsFitOutcome v ps o) → IsFitOutcome v ps q → IsFitOutcome v ps (cond t o q)
+either_fits v ps true o q h k = h refl
+either_fits v ps false o q h k = k
 
 either_moves : (b : Before) (c : Cpu) (t : Bool) (o q : Outcome) → OutcomeMoves b c o → OutcomeMoves b c q → OutcomeMoves b c (cond t o q)
 either_moves b c true o q h k = h
@@ -53,7 +33,7 @@ either_moves b c false o q h k = k
 by_its_ruling : (name : List ℕ) (ss : List Slot) (ruling : Before → (ℕ → ℕ) → Ruling) → are_of_value ss ≡ true → RuledMoves ruling → IsLawful (ruled name ss ruling)
 by_its_ruling name ss ruling e moves =
     record {
-      fits = λ b a. either_fits (targets_in ss a) ((ruling b a).error == 0) _ _ (value_fits ss a (ruling b a).value e) tt;
+      fits = λ b a good. either_fits b.view (targets_in ss a) ((ruling b a).error == 0) _ _ (λ none. value_fits b.view ss a (ruling b a).value e good) tt;
       moves = λ b a c same. either_moves b c ((ruling b a).error == 0) _ _ (moves.moves b a c same) tt;
     }
 
@@ -69,22 +49,48 @@ nothing : (b : Before) (c : Cpu) → AllMoves b c []
 nothing b c = OwnMoves (NoneMoves refl)
 
 leaves : (name : List ℕ) (ss : List Slot) → IsLawful (row name ss exiting)
-leaves name ss = record { fits = λ b a. tt; moves = λ b a c same. tt }
+leaves name ss = record { fits = λ b a good. tt; moves = λ b a c same. tt }
 
 tells_pid : (name : List ℕ) → IsLawful (row name (ToWords 3 ∷ []) telling_pid)
-tells_pid name = record { fits = λ b a. (omega arith, tt); moves = λ b a c same. nothing b c }
+tells_pid name = record { fits = λ b a good. ((first_fits b.view [] a 6 good).0, tt); moves = λ b a c same. nothing b c }
 
 reads : (name : List ℕ) → IsLawful (row name read_slots reading)
 reads name = record {
-  fits = λ b a. either_fits (targets_in read_slots a) (a 5 == 0) _ _ (took (a 2) b.input, (omega arith, tt)) tt;
+  fits = λ b a good. either_fits b.view (targets_in read_slots a) (a 5 == 0) _ _ (λ is. got b a good) tt;
   moves = λ b a c same. either_moves b c (a 5 == 0) _ _ (nothing b c) tt;
 }
+  where
+    got : (b : Before) (a : ℕ → ℕ) → are_good b.view (pointers_in read_slots b.view a) ≡ true
+        → (let part = take (a 2) b.input in AreFitParts b.view.held b.view.bytes (targets_in read_slots a) (part ∷ word_bytes (length part) ∷ []))
+    got b a good =
+        let part = take (a 2) b.input in
+        let first = first_fits b.view (Word ∷ ToWord ∷ []) a (a 2) good in
+        (fewer_fit b.view.held b.view.bytes (a 4) (a 3) (length part) (a 2) (took (a 2) b.input) first.0, ((first_fits b.view [] a 2 first.1).0, tt))
 
 writes : (name : List ℕ) → IsLawful (row name (Word ∷ Reads ∷ Word ∷ ToWord ∷ []) writing)
 writes name = record {
-  fits = λ b a. either_fits (targets_in (Word ∷ Reads ∷ Word ∷ ToWord ∷ []) a) (is_console (a 5)) _ _ (omega arith, tt) tt;
+  fits = λ b a good. either_fits b.view (targets_in (Word ∷ Reads ∷ Word ∷ ToWord ∷ []) a) (is_console (a 5)) _ _ (λ is. value_fits b.view (Word ∷ Reads ∷ Word ∷ ToWord ∷ []) a (a 2) refl good) tt;
   moves = λ b a c same. either_moves b c (is_console (a 5)) _ _ (nothing b c) tt;
 }
+
+-- the row of a heap, whose selector is the first word that is pushed
+by_its_heap : (name : List ℕ) (ss : List Slot) (ruling : (ℕ → ℕ) → List ℕ → HeapRuling) → are_of_value ss ≡ true
+    → ((a : ℕ → ℕ) (bytes : List ℕ) → KeepsCount bytes (ruling a bytes)) → IsLawful (row name (Heap ∷ ss) (λ b a. on_heap (Heap ∷ ss) b (a (words_in ss)) (ruling a)))
+by_its_heap name ss ruling e keeps =
+    record {
+      fits = λ b a good.
+          let s = a (words_in ss) in
+          let r = ruling a (heap_bytes b s) in
+          either_fits b.view (targets_in (Heap ∷ ss) a) (may_have_heap b.view s) _ _
+          (λ writable.
+          either_fits b.view (targets_in (Heap ∷ ss) a) (r.error == 0) _ _
+          (λ none. (heap_fits b s r.bytes writable (keeps a (heap_bytes b s)), value_fits b.view ss a r.value e good)) tt)
+          tt;
+      moves = λ b a c same.
+          let s = a (words_in ss) in
+          let r = ruling a (heap_bytes b s) in
+          either_moves b c (may_have_heap b.view s) _ _ (either_moves b c (r.error == 0) _ _ (nothing b c) tt) tt;
+    }
 
 -- in the order of the table
 pub lawful : EachRow IsLawful rows
@@ -124,7 +130,16 @@ lawful = (
                                   by_its_ruling _ _ _ refl huge_reallocation_is,
                                   (
                                     by_its_ruling _ _ _ refl (quiet (λ b. huge_shift)),
-                                    (by_its_ruling _ _ _ refl (quiet (λ b. b.known.avail)), tt),
+                                    (
+                                      by_its_ruling _ _ _ refl (quiet (λ b. b.known.avail)),
+                                      (
+                                        by_its_heap _ (Word ∷ Word ∷ []) (λ a. setting_up (a 1) (a 0)) refl (λ a. setting_count (a 1) (a 0)),
+                                        (
+                                          by_its_heap _ (ToWord ∷ Word ∷ []) (λ a. taking (a 0)) refl (λ a. taking_count (a 0)),
+                                          (by_its_heap _ (Word ∷ Word ∷ []) (λ a. giving_back (a 1) (a 0)) refl (λ a. giving_count (a 1) (a 0)), tt),
+                                        ),
+                                      ),
+                                    ),
                                   ),
                                 ),
                               ),

@@ -23,6 +23,8 @@ pub mod SharedMoves
 pub mod HugeMoves
 pub mod FitShares
 pub mod FitRuns
+pub mod HeapSizes
+pub mod Fits
 pub mod Lawful
 pub mod StepMoves
 pub mod MovesFit

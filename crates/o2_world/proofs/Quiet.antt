@@ -4,9 +4,12 @@ use Rattle.o2_conf.specs.Dispatch.{Dispatch}
 use Rattle.o2_world.specs.World.{World, Process, is_live}
 use Rattle.o2_world.specs.Holders.{with_process}
 use Rattle.o2_world.specs.Changes.{at_place, at_number, with_changes, swept}
+use Rattle.o2_world.specs.declared.types.Slot.{Slot}
 use Rattle.o2_world.specs.CallParts.{Before, Effect, argument}
+use Rattle.o2_world.specs.Slots.{may_have_heap}
+use Rattle.o2_world.specs.HeapRulings.{HeapRuling, giving_back, setting_up, taking}
 use Rattle.o2_world.specs.Outcomes.{CallRow, Does, Fails, Leaves, Outcome, come_out, served}
-use Rattle.o2_world.specs.Calls.{is_console, reading, served_by, writing}
+use Rattle.o2_world.specs.Calls.{alloc_slots, free_slots, giving_to_heap, heap_bytes, is_console, on_heap, reading, served_by, set_slots, setting_heap, taking_of_heap, writing}
 use Rattle.o2_world.specs.RowLaws.{ErrorChangesNothing, IsQuiet, changes_of}
 use Rattle.o2_world.specs.Effect.{has_trap_flag, single_stepped}
 use Rattle.o2_world.specs.Run.{changed, plainly, worked}
@@ -58,6 +61,18 @@ read_quiet b a = either_quiet (a 5 == 0) _ _ refl refl
 
 pub write_quiet : (b : Before) (a : ℕ → ℕ) → changes_of (writing b a) ≡ []
 write_quiet b a = either_quiet (is_console (a 5)) _ _ refl refl
+
+heap_quiet : (b : Before) (slots : List Slot) (s : ℕ) (ruling : List ℕ → HeapRuling) → changes_of (on_heap slots b s ruling) ≡ []
+heap_quiet b slots s ruling = either_quiet (may_have_heap b.view s) _ _ (either_quiet ((ruling (heap_bytes b s)).error == 0) _ _ refl refl) refl
+
+pub set_quiet : (b : Before) (a : ℕ → ℕ) → changes_of (setting_heap b a) ≡ []
+set_quiet b a = heap_quiet b set_slots (a 2) (setting_up (a 1) (a 0))
+
+pub alloc_quiet : (b : Before) (a : ℕ → ℕ) → changes_of (taking_of_heap b a) ≡ []
+alloc_quiet b a = heap_quiet b alloc_slots (a 3) (taking (a 0))
+
+pub free_quiet : (b : Before) (a : ℕ → ℕ) → changes_of (giving_to_heap b a) ≡ []
+free_quiet b a = heap_quiet b free_slots (a 2) (giving_back (a 1) (a 0))
 
 -- an error number changes nothing and writes nothing
 error_quiet : (b : Before) (r : CallRow) (next : ℕ) (a : ℕ → ℕ) (o : Outcome) → ErrorChangesNothing b (come_out r b next a o)

@@ -6,21 +6,18 @@ use Rattle.o2_isa.specs.declared.cpu.Stop.{Stop}
 use Rattle.o2_isa.specs.declared.cpu.Stop.TheVariants as stop
 use Rattle.o2_isa.specs.Parts.{put_part}
 use Rattle.o2_isa.specs.View.{View, Hold, is_writable, bound_in}
-use Rattle.o2_isa.specs.Pointers.{is_for_es, has_range, is_good, put_in}
+use Rattle.o2_isa.specs.Pointers.{has_range, put_in}
 use Rattle.o2_isa.specs.Steps.{State as Machine, state}
 use Rattle.o2_isa.specs.Step.{stepped}
 use Rattle.o2_isa.specs.declared.cpu.Outcome.TheVariants as outcome
 use Rattle.o2_isa.specs.Sizes.{KeepsLengths}
 use Rattle.o2_isa.proofs.Sizes.{stays, behind, stepped_lengths}
 use Rattle.o2_world.specs.World.{is_live}
-use Rattle.o2_world.specs.declared.types.Slot.{Slot}
-use Rattle.o2_world.specs.declared.types.Slot.TheVariants.{Word, Reads, Writes, Text, ToWord, ToLong, ToWords}
-use Rattle.o2_world.specs.CallParts.{Before, Effect, may_read, may_write, put_at_pointer}
-use Rattle.o2_world.specs.SharedNames.{text_size}
-use Rattle.o2_world.specs.Slots.{Pointer, are_good, pointers_in, put_all, targets_in, words_in}
+use Rattle.o2_world.specs.CallParts.{Before, Effect, put_at_pointer}
+use Rattle.o2_world.specs.Slots.{Pointer, put_all, targets_in}
 use Rattle.o2_world.specs.Outcomes.{CallRow, Does, Fails, Leaves, Outcome, come_out}
 use Rattle.o2_world.specs.Calls.{serviced}
-use Rattle.o2_world.specs.RowLaws.{AreFitParts, IsFitOutcome, IsLawful}
+use Rattle.o2_world.specs.RowLaws.{AreFitParts, IsFitOutcome, IsLawful, fits_at}
 use Rattle.o2_world.specs.Effect.{has_trap_flag, answered, effect}
 use Rattle.o2_world.proofs.Lawful.{lawful}
 use Rattle.o2_world.proofs.Serving.{by_service}
@@ -68,18 +65,7 @@ or_cases : {P : Type 0} (a b : Bool) → (a || b) ≡ true → (a ≡ true → P
 or_cases true b e f g = f refl
 or_cases false b e f g = g e
 
--- where a pointer is good its range can be written
-abbrev pub fits : (ℕ → Option Hold) → (ℕ → List ℕ) → (s offset count : ℕ) → Bool
-fits held f s offset count = (count == 0) || has_range f is_writable offset count (bound_in held s)
-
-fits_by : (n p h : Bool) → (n || (p && h)) ≡ true → (n || h) ≡ true
-fits_by n p h e = grind arith
-
-good_fits : (v : View) (s offset count : ℕ) → may_write v s offset count ≡ true → fits v.held v.bytes s offset count ≡ true
-unfolding is_good
-good_fits v s offset count e = fits_by (count == 0) (is_for_es v s) _ e
-
-pointer_sizes : (held : ℕ → Option Hold) (f : ℕ → List ℕ) (s offset : ℕ) (part : List ℕ) → fits held f s offset (length part) ≡ true
+pointer_sizes : (held : ℕ → Option Hold) (f : ℕ → List ℕ) (s offset : ℕ) (part : List ℕ) → fits_at held f s offset (length part) ≡ true
     → KeepsLengths f (put_at_pointer held f s offset part)
 unfolding put_at_pointer
 pointer_sizes held f s offset part e =
@@ -92,7 +78,7 @@ still_range f g ok offset count None k e = e
 still_range f g ok offset count (Some h) k e = ap (λ (n : ℕ). ok h.rights && nat_le (offset + count) n) (k.same h.name) ∙ e
 
 still_writable : (held : ℕ → Option Hold) (f g : ℕ → List ℕ) (s offset count : ℕ) → KeepsLengths f g
-    → fits held f s offset count ≡ true → fits held g s offset count ≡ true
+    → fits_at held f s offset count ≡ true → fits_at held g s offset count ≡ true
 still_writable held f g s offset count k e = go (count == 0) e
   where
     go : (b : Bool) → (b || has_range f is_writable offset count (bound_in held s)) ≡ true
@@ -100,87 +86,38 @@ still_writable held f g s offset count k e = go (count == 0) e
     go true e = refl
     go false e = still_range f g is_writable offset count (bound_in held s) k e
 
--- fewer bytes than the pointer is good for
-fewer_range : (f : ℕ → List ℕ) (ok : ℕ → Bool) (offset n m : ℕ) (o : Option Hold) → n ≤ m → has_range f ok offset m o ≡ true
-    → has_range f ok offset n o ≡ true
-fewer_range f ok offset n m None h e = e
-fewer_range f ok offset n m (Some x) h e = go (ok x.rights) e
-  where
-    go : (b : Bool) → (b && nat_le (offset + m) (length (f x.name))) ≡ true → (b && nat_le (offset + n) (length (f x.name))) ≡ true
-    go true e = grind arith
-    go false e = e
+-- Parts that fit.
 
-fewer_writable : (held : ℕ → Option Hold) (f : ℕ → List ℕ) (s offset n m : ℕ) → n ≤ m → fits held f s offset m ≡ true
-    → fits held f s offset n ≡ true
-fewer_writable held f s offset n m h e = go (m == 0) (n == 0) (λ z. zero_by n m h z) e
-  where
-    zero_by : (n m : ℕ) → n ≤ m → (m == 0) ≡ true → (n == 0) ≡ true
-    zero_by n m h z = grind arith
+still_fit : (held : ℕ → Option Hold) (f g : ℕ → List ℕ) → KeepsLengths f g → (ps : List Pointer) (parts : List (List ℕ)) → AreFitParts held f ps parts
+    → AreFitParts held g ps parts
+still_fit held f g k [] [] fit = tt
+still_fit held f g k [] (part ∷ parts) fit = fit
+still_fit held f g k (p ∷ ps) [] fit = tt
+still_fit held f g k (p ∷ ps) (part ∷ parts) fit = (still_writable held f g p.selector p.offset (length part) k fit.0, still_fit held f g k ps parts fit.1)
 
-    go : (y x : Bool) → (y ≡ true → x ≡ true) → (y || has_range f is_writable offset m (bound_in held s)) ≡ true
-        → (x || has_range f is_writable offset n (bound_in held s)) ≡ true
-    go true x z e = ap (λ (t : Bool). t || has_range f is_writable offset n (bound_in held s)) (z refl)
-    go false true z e = refl
-    go false false z e = fewer_range f is_writable offset n m (bound_in held s) h e
-
--- Parts behind good pointers.
-
-abbrev pub AllFit : (ℕ → Option Hold) → (ℕ → List ℕ) → List Pointer → Type 0
-AllFit held f [] = Unit {0}
-AllFit held f (p ∷ ps) = (fits held f p.selector p.offset p.count ≡ true) × AllFit held f ps
-
-still_fit : (held : ℕ → Option Hold) (f g : ℕ → List ℕ) → KeepsLengths f g → (ps : List Pointer) → AllFit held f ps → AllFit held g ps
-still_fit held f g k [] all = tt
-still_fit held f g k (p ∷ ps) all = (still_writable held f g p.selector p.offset p.count k all.0, still_fit held f g k ps all.1)
-
-pub put_all_sizes : (held : ℕ → Option Hold) (ps : List Pointer) (parts : List (List ℕ)) (f : ℕ → List ℕ) → AllFit held f ps → AreFitParts ps parts
+pub put_all_sizes : (held : ℕ → Option Hold) (ps : List Pointer) (parts : List (List ℕ)) (f : ℕ → List ℕ) → AreFitParts held f ps parts
     → KeepsLengths f (put_all held ps parts f)
-put_all_sizes held [] parts f all few = stays f
-put_all_sizes held (p ∷ ps) [] f all few = stays f
-put_all_sizes held (p ∷ ps) (part ∷ parts) f all few =
+put_all_sizes held [] parts f fit = stays f
+put_all_sizes held (p ∷ ps) [] f fit = stays f
+put_all_sizes held (p ∷ ps) (part ∷ parts) f fit =
     let next = put_at_pointer held f p.selector p.offset part in
-    let first = pointer_sizes held f p.selector p.offset part (fewer_writable held f p.selector p.offset (length part) p.count few.0 all.0) in
-    behind _ _ _ first (put_all_sizes held ps parts next (still_fit held f next first ps all.1) few.1)
-
-both : (a b : Bool) → (a && b) ≡ true → (a ≡ true) × (b ≡ true)
-both true b e = (refl, e)
-both false b e = absurd (cc)
-
-first_fits : (v : View) (ss : List Slot) (a : ℕ → ℕ) (count : ℕ) → (let n = words_in ss in (may_write v (a (n + 1)) (a n) count && are_good v (pointers_in ss v a)) ≡ true)
-    → (let n = words_in ss in fits v.held v.bytes (a (n + 1)) (a n) count ≡ true) × (are_good v (pointers_in ss v a) ≡ true)
-first_fits v ss a count good =
-    let n = words_in ss in
-    let parts = both (may_write v (a (n + 1)) (a n) count) (are_good v (pointers_in ss v a)) good in
-    (good_fits v (a (n + 1)) (a n) count parts.0, parts.1)
-
--- the pointers that are for writing are among those that are tested
-pub targets_fit : (v : View) (ss : List Slot) (a : ℕ → ℕ) → are_good v (pointers_in ss v a) ≡ true → AllFit v.held v.bytes (targets_in ss a)
-targets_fit v [] a good = tt
-targets_fit v (Word ∷ ss) a good = targets_fit v ss a good
-targets_fit v (Reads ∷ ss) a good = targets_fit v ss a (both (may_read v (a (words_in ss + 1)) (a (words_in ss)) (a (words_in ss - 1))) (are_good v (pointers_in ss v a)) good).1
-targets_fit v (Text ∷ ss) a good =
-    let n = words_in ss in
-    targets_fit v ss a (both (may_read v (a (n + 1)) (a n) (text_size v (a (n + 1)) (a n))) (are_good v (pointers_in ss v a)) good).1
-targets_fit v (Writes ∷ ss) a good = let h = first_fits v ss a (a (words_in ss - 1)) good in (h.0, targets_fit v ss a h.1)
-targets_fit v (ToWord ∷ ss) a good = let h = first_fits v ss a 2 good in (h.0, targets_fit v ss a h.1)
-targets_fit v (ToLong ∷ ss) a good = let h = first_fits v ss a 4 good in (h.0, targets_fit v ss a h.1)
-targets_fit v (ToWords count ∷ ss) a good = let h = first_fits v ss a (2 * count) good in (h.0, targets_fit v ss a h.1)
+    let first = pointer_sizes held f p.selector p.offset part fit.0 in
+    behind _ _ _ first (put_all_sizes held ps parts next (still_fit held f next first ps parts fit.1))
 
 -- Each row keeps the sizes.
 
 abbrev pub Keeps : Before → Effect → Type 0
 Keeps b e = KeepsLengths b.view.bytes e.bytes
 
-come_sizes : (r : CallRow) (b : Before) (next : ℕ) (a : ℕ → ℕ) → are_good b.view (pointers_in r.slots b.view a) ≡ true → (o : Outcome) → IsFitOutcome (targets_in r.slots a) o
-    → Keeps b (come_out r b next a o)
-come_sizes r b next a good (Fails error values) few = stays b.view.bytes
-come_sizes r b next a good (Does d) few = put_all_sizes b.view.held (targets_in r.slots a) d.parts b.view.bytes (targets_fit b.view r.slots a good) few
-come_sizes r b next a good (Leaves action code) few = stays b.view.bytes
+come_sizes : (r : CallRow) (b : Before) (next : ℕ) (a : ℕ → ℕ) (o : Outcome) → IsFitOutcome b.view (targets_in r.slots a) o → Keeps b (come_out r b next a o)
+come_sizes r b next a (Fails error values) fit = stays b.view.bytes
+come_sizes r b next a (Does d) fit = put_all_sizes b.view.held (targets_in r.slots a) d.parts b.view.bytes fit
+come_sizes r b next a (Leaves action code) fit = stays b.view.bytes
 
 pub serviced_sizes : (service : ℕ) (b : Before) (next : ℕ) → Keeps b (serviced b service next)
 serviced_sizes service b next =
     by_service (Keeps b) IsLawful b next lawful (stays b.view.bytes) (stays b.view.bytes)
-    (λ r law a good. come_sizes r b next a good (r.outcome b a) (law.fits b a)) service
+    (λ r law a good. come_sizes r b next a (r.outcome b a) (law.fits b a good)) service
 
 answered_sizes : (b : Before) (r : Result Machine Stop) → stepped (state b.cpu b.view) ≡ r → Keeps b (answered b r)
 answered_sizes b (Ok s) e = stepped_lengths outcome.Done s (state b.cpu b.view) e

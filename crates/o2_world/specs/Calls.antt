@@ -2,15 +2,16 @@
 use Rattle.std.specs.Prelude.{ℕ, ◌==◌, Bool, List, [], ◌∷◌, ◌++◌, length, take, drop, not, codes, if◌then◌else◌, ◌&&◌, ◌||◌, Option, Some, None}
 use Rattle.o2_world.specs.declared.types.Argument.TheVariants as shown
 use Rattle.o2_world.specs.declared.types.Slot.{Slot}
-use Rattle.o2_world.specs.declared.types.Slot.TheVariants.{Word, Reads, Writes, Text, ToWord, ToLong, ToWords}
+use Rattle.o2_world.specs.declared.types.Slot.TheVariants.{Word, Reads, Writes, Text, ToWord, ToLong, ToWords, Heap}
 use Rattle.o2_world.specs.Map.{get}
 use Rattle.o2_world.specs.Rulings.{Ruling, grants, aliasing, allocation, freeing, locking, reallocation, sizing, unlocking}
 use Rattle.o2_world.specs.SharedNames.{name_by, text_at}
 use Rattle.o2_world.specs.SharedRulings.{getting, giving, naming, sharing}
 use Rattle.o2_world.specs.HugeRulings.{huge_allocation, huge_reallocation, huge_shift}
+use Rattle.o2_world.specs.HeapRulings.{HeapRuling, giving_back, setting_up, taking}
 pub use Rattle.o2_world.specs.CallParts.{Effect, Before, trapped, trap_code, word_of, has_arguments, word_bytes, long_bytes, returned, may_read, may_write}
 unfoldable pub use Rattle.o2_world.specs.CallParts.{argument, is_good, range_of, put_at_pointer}
-use Rattle.o2_world.specs.Slots.{are_good, pointers_in}
+use Rattle.o2_world.specs.Slots.{are_good, may_have_heap, parts_in, pointers_in, values_in}
 use Rattle.o2_world.specs.Outcomes.{CallRow, Outcome, Does, Fails, Leaves, row, ruled, served}
 
 -- The rulings by the words of the call.
@@ -130,6 +131,44 @@ writing b a =
     })
     else Fails 6 (shown.Word (a 2) ∷ [])
 
+-- Heaps inside a segment: the bytes of the segment as far as a heap may reach, whose size is a word that is a multiple of 4.
+abbrev pub heap_most : ℕ
+heap_most = 65532
+
+abbrev pub heap_bytes : Before → (s : ℕ) → List ℕ
+heap_bytes b s = range_of b.view.held b.view.bytes s 0 heap_most
+
+-- The heap comes first among what is written, and then the value. 315 where the selector isn't that of data that can be written.
+abbrev pub by_heap : List Slot → Before → HeapRuling → Outcome
+by_heap slots b r =
+    if r.error == 0
+    then Does (record { values = values_in slots r.value; parts = r.bytes ∷ parts_in slots r.value; changes = []; input = b.input; piece = [] })
+    else Fails r.error []
+
+abbrev pub on_heap : List Slot → Before → (s : ℕ) → (List ℕ → HeapRuling) → Outcome
+on_heap slots b s ruling = if may_have_heap b.view s then by_heap slots b (ruling (heap_bytes b s)) else Fails 315 []
+
+-- DosSubSet(sel, flags, size)
+abbrev pub set_slots : List Slot
+set_slots = Heap ∷ Word ∷ Word ∷ []
+
+abbrev pub setting_heap : Before → (ℕ → ℕ) → Outcome
+setting_heap b a = on_heap set_slots b (a 2) (setting_up (a 1) (a 0))
+
+-- DosSubAlloc(sel, poffset, size)
+abbrev pub alloc_slots : List Slot
+alloc_slots = Heap ∷ ToWord ∷ Word ∷ []
+
+abbrev pub taking_of_heap : Before → (ℕ → ℕ) → Outcome
+taking_of_heap b a = on_heap alloc_slots b (a 3) (taking (a 0))
+
+-- DosSubFree(sel, offset, size)
+abbrev pub free_slots : List Slot
+free_slots = Heap ∷ Word ∷ Word ∷ []
+
+abbrev pub giving_to_heap : Before → (ℕ → ℕ) → Outcome
+giving_to_heap b a = on_heap free_slots b (a 2) (giving_back (a 1) (a 0))
+
 -- the rows by the numbers of their services: each service that is built has one
 abbrev pub rows : List (ℕ × CallRow)
 rows =
@@ -152,6 +191,9 @@ rows =
     (17, ruled (codes "DosReallocHuge") (Word ∷ Word ∷ Word ∷ []) huge_reallocation_by) ∷
     (18, ruled (codes "DosGetHugeShift") (ToWord ∷ []) shift_by) ∷
     (19, ruled (codes "DosMemAvail") (ToLong ∷ []) avail_by) ∷
+    (20, row (codes "DosSubSet") set_slots setting_heap) ∷
+    (21, row (codes "DosSubAlloc") alloc_slots taking_of_heap) ∷
+    (22, row (codes "DosSubFree") free_slots giving_to_heap) ∷
     []
 
 unfoldable pub row_of : (service : ℕ) → Option CallRow

@@ -10,6 +10,8 @@ pub mod Rulings
 pub mod SharedNames
 pub mod SharedRulings
 pub mod HugeRulings
+pub mod Heaps
+pub mod HeapRulings
 pub mod Slots
 pub mod Outcomes
 pub mod Calls
@@ -30,5 +32,6 @@ pub mod Hello
 pub mod SegmentsWorked
 pub mod SharedWorked
 pub mod HugeWorked
+pub mod HeapsWorked
 pub mod SharedMarks
 pub mod EndWorked

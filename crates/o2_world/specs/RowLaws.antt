@@ -1,7 +1,9 @@
 -- What goes for each row of the table of calls.
-use Rattle.std.specs.Prelude.{◌≡◌, ◌≢◌, ◌≤◌, ℕ, List, [], ◌∷◌, length}
+use Rattle.std.specs.Prelude.{◌≡◌, ◌≢◌, ℕ, Bool, true, ◌==◌, ◌||◌, List, [], ◌∷◌, length, Option}
 use Rattle.o2_isa.specs.declared.cpu.Cpu.{Cpu}
+use Rattle.o2_isa.specs.Pointers.{has_range}
 use Rattle.o2_isa.specs.Presence.{SameSelectors}
+use Rattle.o2_isa.specs.View.{Hold, View, bound_in, is_writable}
 use Rattle.o2_world.specs.declared.types.Argument.{Argument}
 use Rattle.o2_world.specs.declared.types.State.TheVariants.{Live}
 use Rattle.o2_world.specs.World.{Calls, Line}
@@ -10,7 +12,7 @@ use Rattle.o2_world.specs.CallParts.{Before, Effect}
 use Rattle.o2_world.specs.Rulings.{Ruling}
 use Rattle.o2_world.specs.HugeRulings.{without}
 use Rattle.o2_world.specs.Moves.{AllMoves}
-use Rattle.o2_world.specs.Slots.{Pointer, targets_in}
+use Rattle.o2_world.specs.Slots.{Pointer, are_good, pointers_in, targets_in}
 use Rattle.o2_world.specs.Outcomes.{CallRow, Does, Fails, Leaves, Outcome, gone_indexes}
 
 -- for each entry of a table, by its number
@@ -30,17 +32,21 @@ changes_of (Leaves action code) = []
 abbrev pub IsQuiet : CallRow → Type 0
 IsQuiet r = (b : Before) (a : ℕ → ℕ) → changes_of (r.outcome b a) ≡ []
 
--- each part has a pointer, which is for as many bytes at least
-abbrev pub AreFitParts : List Pointer → (parts : List (List ℕ)) → Type 0
-AreFitParts [] [] = Unit {0}
-AreFitParts [] (part ∷ parts) = ⊥
-AreFitParts (p ∷ ps) [] = Unit {0}
-AreFitParts (p ∷ ps) (part ∷ parts) = (length part ≤ p.count) × AreFitParts ps parts
+-- so many bytes lie there in a segment that can be written; for none nothing is looked at
+abbrev pub fits_at : (ℕ → Option Hold) → (ℕ → List ℕ) → (s offset count : ℕ) → Bool
+fits_at held bytes s offset count = (count == 0) || has_range bytes is_writable offset count (bound_in held s)
 
-abbrev pub IsFitOutcome : List Pointer → Outcome → Type 0
-IsFitOutcome ps (Fails error values) = Unit {0}
-IsFitOutcome ps (Does d) = AreFitParts ps d.parts
-IsFitOutcome ps (Leaves action code) = Unit {0}
+-- each part has a pointer, and fits there
+abbrev pub AreFitParts : (ℕ → Option Hold) → (ℕ → List ℕ) → List Pointer → (parts : List (List ℕ)) → Type 0
+AreFitParts held bytes [] [] = Unit {0}
+AreFitParts held bytes [] (part ∷ parts) = ⊥
+AreFitParts held bytes (p ∷ ps) [] = Unit {0}
+AreFitParts held bytes (p ∷ ps) (part ∷ parts) = (fits_at held bytes p.selector p.offset (length part) ≡ true) × AreFitParts held bytes ps parts
+
+abbrev pub IsFitOutcome : View → List Pointer → Outcome → Type 0
+IsFitOutcome v ps (Fails error values) = Unit {0}
+IsFitOutcome v ps (Does d) = AreFitParts v.held v.bytes ps d.parts
+IsFitOutcome v ps (Leaves action code) = Unit {0}
 
 -- what changes, with the registers behind it, where those at its return have the selectors of before
 abbrev pub OutcomeMoves : Before → Cpu → Outcome → Type 0
@@ -54,7 +60,7 @@ pub record RuledMoves (ruling : Before → (ℕ → ℕ) → Ruling) : Type 0 wh
       → let r = ruling b a in AllMoves b (without c (gone_indexes b.known r.changes)) r.changes
 
 pub record IsLawful (r : CallRow) : Type 0 where
-  pub fits : (b : Before) (a : ℕ → ℕ) → IsFitOutcome (targets_in r.slots a) (r.outcome b a)
+  pub fits : (b : Before) (a : ℕ → ℕ) → are_good b.view (pointers_in r.slots b.view a) ≡ true → IsFitOutcome b.view (targets_in r.slots a) (r.outcome b a)
   pub moves : (b : Before) (a : ℕ → ℕ) (c : Cpu) → SameSelectors c b.cpu → OutcomeMoves b c (r.outcome b a)
 
 -- no name, map or lock changes, nothing is written and no input goes, and the process goes on with its selectors

@@ -43,6 +43,7 @@ ghost use Rattle.o2_world.specs.Text.{lines_text};
 ghost use Rattle.o2_world.specs.Rulings.{grants, locking_with, unlocking_with};
 ghost use Rattle.o2_world.specs.SharedNames.{before_zero, looked_at, name_by};
 ghost use Rattle.o2_world.specs.SharedWorked.{byte_behind, gets, gives, lines_behind, names as names_of, one_left, reserves_behind, shares, texts_behind, told_by_two, two_sharers};
+ghost use Rattle.o2_world.specs.HeapsWorked.{heap_behind, sub_allocs, sub_allocs_at, sub_frees, sub_sets, told_of_heap};
 ghost use Rattle.o2_world.specs.HugeWorked.{data_behind, huges, loaded_behind, rehuges, shifts};
 ghost use Rattle.std.specs.Prelude.{replicate, take};
 ghost use Rattle.o2_world.specs.SegmentsWorked.{some_moves, es_after, ds_after, one_process, two_processes, told_after, told_by_one, data_after, allocs, allocs_of, reallocs, frees, sizes, locks, unlocks, aliases, calls, names_with, locked_marks};
@@ -323,6 +324,57 @@ pub fn huge_calls_answer_by_their_rows()
     ensures clears { data_behind (loaded_behind 0x2c ((1, huges 1 1 3 0) ∷ [])) (rehuges 1 0 0x27) ≡ (0, 0) }
     ensures keeps { data_behind (loaded_behind 0x24 ((1, huges 1 1 3 0) ∷ [])) (rehuges 1 0 0x27) ≡ (0x24, 0x24) }
     ensures shift { told_by_two ((1, shifts) ∷ []) ≡ text_of (codes "1 call DosGetHugeShift 0017:0034 = 0 0003" ∷ []) }
+{}
+
+/// What each call on a heap inside a segment answers, with each error, over a segment of 64 bytes.
+pub fn heap_calls_answer_by_their_rows()
+    // The lowest place that is long enough; a free range that is free already; and sizes that don't suit.
+    ensures takes { told_of_heap (sub_sets 0x27 1 64 ∷ sub_allocs 5 ∷ sub_allocs 16 ∷ sub_frees 8 5 ∷ sub_frees 8 5 ∷ sub_allocs 49 ∷ sub_allocs 57 ∷ sub_allocs 4 ∷ [])
+        ≡ text_of (codes "1 call DosSubSet 0027 0001 0040 = 0" ∷ codes "1 call DosSubAlloc 0027 0017:0034 0005 = 0 0008" ∷
+        codes "1 call DosSubAlloc 0027 0017:0034 0010 = 0 0010" ∷ codes "1 call DosSubFree 0027 0008 0005 = 0" ∷
+        codes "1 call DosSubFree 0027 0008 0005 = 312" ∷ codes "1 call DosSubAlloc 0027 0017:0034 0031 = 311" ∷
+        codes "1 call DosSubAlloc 0027 0017:0034 0039 = 313" ∷ codes "1 call DosSubAlloc 0027 0017:0034 0004 = 0 0008" ∷ []) }
+    // What is freed joins what is free on both sides.
+    ensures joins { told_of_heap (sub_sets 0x27 1 64 ∷ sub_allocs 8 ∷ sub_allocs 8 ∷ sub_allocs 8 ∷ sub_frees 16 8 ∷ sub_frees 8 8 ∷ sub_frees 24 8 ∷ sub_allocs 56 ∷ [])
+        ≡ text_of (codes "1 call DosSubSet 0027 0001 0040 = 0" ∷ codes "1 call DosSubAlloc 0027 0017:0034 0008 = 0 0008" ∷
+        codes "1 call DosSubAlloc 0027 0017:0034 0008 = 0 0010" ∷ codes "1 call DosSubAlloc 0027 0017:0034 0008 = 0 0018" ∷
+        codes "1 call DosSubFree 0027 0010 0008 = 0" ∷ codes "1 call DosSubFree 0027 0008 0008 = 0" ∷
+        codes "1 call DosSubFree 0027 0018 0008 = 0" ∷ codes "1 call DosSubAlloc 0027 0017:0034 0038 = 0 0008" ∷ []) }
+    // A part may be freed, and what is free in part isn't freed.
+    ensures frees_parts { told_of_heap (sub_sets 0x27 1 64 ∷ sub_allocs 16 ∷ sub_frees 12 4 ∷ sub_frees 8 16 ∷ sub_frees 8 4 ∷ sub_allocs 8 ∷ [])
+        ≡ text_of (codes "1 call DosSubSet 0027 0001 0040 = 0" ∷ codes "1 call DosSubAlloc 0027 0017:0034 0010 = 0 0008" ∷
+        codes "1 call DosSubFree 0027 000C 0004 = 0" ∷ codes "1 call DosSubFree 0027 0008 0010 = 312" ∷
+        codes "1 call DosSubFree 0027 0008 0004 = 0" ∷ codes "1 call DosSubAlloc 0027 0017:0034 0008 = 0 0008" ∷ []) }
+    // Ranges that are none of a heap, whose sums pass a word.
+    ensures wrong_ranges { told_of_heap (sub_sets 0x27 1 64 ∷ sub_frees 8 0 ∷ sub_frees 9 4 ∷ sub_frees 4 4 ∷ sub_frees 60 5 ∷ sub_frees 60 4 ∷ sub_frees 65532 4 ∷ sub_frees 65532 65535 ∷ [])
+        ≡ text_of (codes "1 call DosSubSet 0027 0001 0040 = 0" ∷ codes "1 call DosSubFree 0027 0008 0000 = 313" ∷
+        codes "1 call DosSubFree 0027 0009 0004 = 313" ∷ codes "1 call DosSubFree 0027 0004 0004 = 313" ∷
+        codes "1 call DosSubFree 0027 003C 0005 = 313" ∷ codes "1 call DosSubFree 0027 003C 0004 = 312" ∷
+        codes "1 call DosSubFree 0027 FFFC 0004 = 313" ∷ codes "1 call DosSubFree 0027 FFFC FFFF = 313" ∷ []) }
+    // An area is rounded down to four bytes before it is compared.
+    ensures sizes { told_of_heap (sub_sets 0x27 1 11 ∷ sub_sets 0x27 1 65 ∷ sub_sets 0x27 1 68 ∷ sub_sets 0x27 1 67 ∷ sub_sets 0x27 1 12 ∷ sub_sets 0x27 1 15 ∷ sub_allocs 4 ∷ sub_allocs 1 ∷ [])
+        ≡ text_of (codes "1 call DosSubSet 0027 0001 000B = 313" ∷ codes "1 call DosSubSet 0027 0001 0041 = 0" ∷
+        codes "1 call DosSubSet 0027 0001 0044 = 313" ∷ codes "1 call DosSubSet 0027 0001 0043 = 0" ∷
+        codes "1 call DosSubSet 0027 0001 000C = 0" ∷ codes "1 call DosSubSet 0027 0001 000F = 0" ∷
+        codes "1 call DosSubAlloc 0027 0017:0034 0004 = 0 0008" ∷ codes "1 call DosSubAlloc 0027 0017:0034 0001 = 311" ∷ []) }
+    // A heap that reaches further keeps what is taken.
+    ensures reaches_further { told_of_heap (sub_sets 0x27 0 64 ∷ sub_sets 0x27 1 20 ∷ sub_allocs 12 ∷ sub_allocs 1 ∷ sub_sets 0x27 0 16 ∷ sub_sets 0x27 0 20 ∷ sub_sets 0x27 0 64 ∷ sub_allocs 44 ∷ [])
+        ≡ text_of (codes "1 call DosSubSet 0027 0000 0040 = 87" ∷ codes "1 call DosSubSet 0027 0001 0014 = 0" ∷
+        codes "1 call DosSubAlloc 0027 0017:0034 000C = 0 0008" ∷ codes "1 call DosSubAlloc 0027 0017:0034 0001 = 311" ∷
+        codes "1 call DosSubSet 0027 0000 0010 = 310" ∷ codes "1 call DosSubSet 0027 0000 0014 = 0" ∷
+        codes "1 call DosSubSet 0027 0000 0040 = 0" ∷ codes "1 call DosSubAlloc 0027 0017:0034 002C = 0 0014" ∷ []) }
+    // Flags come behind the selector, which is that of data that can be written, with any low bits.
+    ensures selectors { told_of_heap (sub_sets 0x27 2 0 ∷ sub_sets 0x0 2 0 ∷ sub_sets 0xf 1 64 ∷ sub_sets 0x24 1 64 ∷ sub_sets 0xa3 1 64 ∷ [])
+        ≡ text_of (codes "1 call DosSubSet 0027 0002 0000 = 314" ∷ codes "1 call DosSubSet 0000 0002 0000 = 315" ∷
+        codes "1 call DosSubSet 000F 0001 0040 = 315" ∷ codes "1 call DosSubSet 0024 0001 0040 = 0" ∷
+        codes "1 call DosSubSet 00A3 0001 0040 = 315" ∷ []) }
+    // The heap is changed first, and then the word behind the pointer, which may spoil it.
+    ensures spoils { told_of_heap (sub_sets 0x27 1 64 ∷ sub_allocs_at 0x27 0x27 0 4 ∷ sub_allocs 4 ∷ [])
+        ≡ text_of (codes "1 call DosSubSet 0027 0001 0040 = 0" ∷ codes "1 call DosSubAlloc 0027 0027:0000 0004 = 0 0008" ∷
+        codes "1 call DosSubAlloc 0027 0017:0034 0004 = 87" ∷ []) }
+    // A bad pointer is told before a selector.
+    ensures points_badly { told_of_heap (sub_allocs_at 0 0x27 63 4 ∷ []) ≡ text_of (codes "1 end trap 13 at 000F:0000" ∷ []) }
+    ensures bytes { heap_behind 12 (sub_sets 0x27 1 64 ∷ []) ≡ 0x53 ∷ 0x42 ∷ 0x40 ∷ 0 ∷ 8 ∷ 0 ∷ 0 ∷ 0 ∷ 0 ∷ 0 ∷ 0x38 ∷ 0 ∷ [] }
 {}
 
 /// A step of a process that goes on gives and takes as many holds of each process and selector as its lines tell.

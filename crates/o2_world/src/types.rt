@@ -28,6 +28,9 @@ pub enum Slot {
     ToLong,
     /// A pointer behind which so many words are written.
     ToWords(u16),
+    /// A word: the selector of a segment that has a heap at its front, whose bytes are read and written. One that isn't that of data that
+    /// can be written is answered by an error, and is no bad pointer.
+    Heap,
 }
 
 /// An argument of a call, or a value that a call wrote, as the report prints it.

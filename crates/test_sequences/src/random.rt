@@ -43,6 +43,12 @@ const SHIFT: u16 = 18;
 
 const AVAILABLE: u16 = 19;
 
+const SET_HEAP: u16 = 20;
+
+const TAKE_OF_HEAP: u16 = 21;
+
+const FREE_OF_HEAP: u16 = 22;
+
 /// How long a code may be before its last calls.
 const LONG: usize = 0x5000;
 
@@ -273,6 +279,46 @@ impl Sequence {
         Ok(())
     }
 
+    /// A heap's size, an offset in it, or how many bytes of it: mostly few.
+    fn part_of_heap(&mut self, process: u16) -> Word {
+        match self.dice.roll(16) {
+            0 => self.any_word(process),
+            1 => self.size(),
+            _ => number(self.dice.roll(96)),
+        }
+    }
+
+    /// Mostly a new heap, or one that reaches further.
+    fn set_heap(&mut self, alloc: Global, process: u16) -> Result<(), NoMemory> {
+        let selector = self.selector(process);
+        let flags = match self.dice.roll(12) {
+            0 => self.any_word(process),
+            1 | 2 => number(0),
+            _ => number(1),
+        };
+        let size = self.part_of_heap(process);
+        self.call(alloc, process, SET_HEAP, &[selector, flags, size])
+    }
+
+    fn take_of_heap(&mut self, alloc: Global, process: u16) -> Result<(), NoMemory> {
+        let selector = self.selector(process);
+        let to = self.pointer(process, true, 2);
+        let size = self.part_of_heap(process);
+        self.call(
+            alloc,
+            process,
+            TAKE_OF_HEAP,
+            &[selector, to.selector, to.offset, size],
+        )
+    }
+
+    fn free_of_heap(&mut self, alloc: Global, process: u16) -> Result<(), NoMemory> {
+        let selector = self.selector(process);
+        let offset = self.part_of_heap(process);
+        let size = self.part_of_heap(process);
+        self.call(alloc, process, FREE_OF_HEAP, &[selector, offset, size])
+    }
+
     /// A call on a segment, by a number below 80.
     fn act_on_segment(&mut self, alloc: Global, process: u16, k: u16) -> Result<(), NoMemory> {
         match k {
@@ -297,7 +343,7 @@ impl Sequence {
         }
     }
 
-    /// A call on a run or on a name, or one that tells, by a number from 115 on.
+    /// A call on a run or on a name, or one that tells, by a number from 115 to 151.
     fn act_on_more(&mut self, alloc: Global, process: u16, k: u16) -> Result<(), NoMemory> {
         match k {
             115..=122 => self.alloc_huge(alloc, process),
@@ -310,14 +356,25 @@ impl Sequence {
         }
     }
 
+    /// A call on a heap, by a number from 152 on.
+    fn act_on_heap(&mut self, alloc: Global, process: u16, k: u16) -> Result<(), NoMemory> {
+        match k {
+            152..=157 => self.set_heap(alloc, process),
+            158..=167 => self.take_of_heap(alloc, process),
+            _ => self.free_of_heap(alloc, process),
+        }
+    }
+
     fn act(&mut self, alloc: Global, process: u16) -> Result<(), NoMemory> {
-        let k = self.dice.roll(152);
+        let k = self.dice.roll(176);
         if k < 80 {
             self.act_on_segment(alloc, process, k)
         } else if k < 115 {
             self.act_with_others(alloc, process, k)
-        } else {
+        } else if k < 152 {
             self.act_on_more(alloc, process, k)
+        } else {
+            self.act_on_heap(alloc, process, k)
         }
     }
 

@@ -13,4 +13,4 @@ store_value-requires-clause-ready g c =
     let v : View = g.B.Bus.view c.args.bus.now in
     let x = c.args.arguments in
     subst (λ (ss : List Slot). are_ready v (targets_in ss (word_in x.words)) ≡ true) (sym c.row_for.ensures.slots)
-    (written_ready v (word_in x.words) (looked_in x.request) (slots_of x) c.requires.ready)
+    (written_ready v (word_in x.words) (looked_in x.request) c.args.value (slots_of x) c.requires.value c.requires.ready)

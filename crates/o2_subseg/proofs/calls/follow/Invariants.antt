@@ -1,5 +1,5 @@
-use Rattle.std.proofs.Common.{◌≡◌, take, length}
-use Rattle.o2_subseg.specs.Heaps.{put_words}
+use Rattle.std.proofs.Common.{◌≡◌, take}
+use Rattle.o2_world.specs.Heaps.{put_words}
 use Rattle.o2_subseg.proofs.calls.follow.Given as goal
 
 -- the words before this one are written

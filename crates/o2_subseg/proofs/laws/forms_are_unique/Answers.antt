@@ -1,5 +1,5 @@
 use Rattle.std.proofs.Common.{ap}
-use Rattle.o2_subseg.specs.Heaps.{controls}
+use Rattle.o2_world.specs.Heaps.{controls}
 use Rattle.o2_subseg.proofs.Chains.{heap_read}
 use Rattle.o2_subseg.proofs.Forms.{heaps_same}
 use Rattle.o2_subseg.proofs.laws.forms_are_unique.Goals as goal

@@ -1,4 +1,4 @@
-use Rattle.o2_subseg.specs.Rulings.{setting_up, taking, giving_back}
+use Rattle.o2_world.specs.HeapRulings.{setting_up, taking, giving_back}
 use Rattle.o2_subseg.proofs.Lowest.{outcome_refused}
 use Rattle.o2_subseg.proofs.Sets.{set_outcome, take_outcome, free_outcome}
 use Rattle.o2_subseg.proofs.laws.refusals_change_nothing.Goals as goal

@@ -1,6 +1,6 @@
 use Rattle.std.proofs.Common.{◌≡◌, ℕ, ◌*◌, ◌/◌, ◌≢◌, ◌<◌, ◌==◌, min, false, arith, refl}
 use Rattle.std.proofs.lemmas.Bool.Decides.{nat_tests}
-use Rattle.o2_subseg.specs.Rulings.{area_of}
+use Rattle.o2_world.specs.HeapRulings.{area_of}
 use Rattle.o2_subseg.proofs.plans.area.Goals as goal
 
 whole_area : (size : ℕ) → size ≡ 0 → 65532 ≡ area_of size

@@ -1,8 +1,8 @@
-use Rattle.std.proofs.Common.{◌≡◌, ℕ, Option, Some, option_map, sym, subst, ◌∙◌, arith, rules}
+use Rattle.std.proofs.Common.{◌≡◌, ℕ, Some, option_map, sym, subst, ◌∙◌, arith, rules}
 use Rattle.o2_subseg.specs.declared.scan.Seek.TheVariants.{Offset}
-use Rattle.o2_subseg.specs.Heaps.{heap_of}
+use Rattle.o2_world.specs.Heaps.{heap_of}
 use Rattle.o2_subseg.specs.Plans.{Plans}
-use Rattle.o2_subseg.specs.Rulings.{giving_back}
+use Rattle.o2_world.specs.HeapRulings.{giving_back}
 use Rattle.o2_subseg.specs.Spots.{spot_of}
 use Rattle.o2_subseg.proofs.Words.{AreBytes}
 use Rattle.o2_subseg.proofs.Planned.{plan_no_range, range_of}

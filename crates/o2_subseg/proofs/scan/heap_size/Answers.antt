@@ -1,4 +1,4 @@
-use Rattle.std.proofs.Common.{◌≡◌, arith}
+use Rattle.std.proofs.Common.{arith}
 use Rattle.o2_subseg.proofs.Walks.{header_bad, header_good}
 use Rattle.o2_subseg.proofs.scan.heap_size.Goals as goal
 use Rattle.o2_subseg.proofs.scan.heap_size.Goals.{then-bytes-via-then-bytes, then-bytes-via-else-bytes+then-word-ne-MARK, then-bytes-via-else-bytes+else-word-ne-MARK+then-word-ne0, then-size-ne0-via-then-size-ne0, then-size-ne0-via-else-size-ne0+then-size-lt-LEAST_SIZE, then-size-ne0-via-else-size-ne0+else-size-lt-LEAST_SIZE+then-size-bytes}

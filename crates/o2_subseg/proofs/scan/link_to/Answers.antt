@@ -1,4 +1,4 @@
-use Rattle.std.proofs.Common.{◌≡◌, arith, sym}
+use Rattle.std.proofs.Common.{◌≡◌, arith}
 use Rattle.o2_subseg.proofs.Walks.{link_bad, link_good}
 use Rattle.o2_subseg.proofs.scan.link_to.Goals as goal
 use Rattle.o2_subseg.proofs.scan.link_to.Goals.{then-offset-ne0-via-then-offset-ne0, then-offset-ne0-via-else-offset-ne0+then-from-low, then-offset-ne0-via-else-offset-ne0+else-from-low+then-from, then-block-ne0-via-then-block-ne0, then-block-ne0-via-else-block-ne0+then-block-lt4, then-block-ne0-via-else-block-ne0+else-block-lt4+then-end-from}

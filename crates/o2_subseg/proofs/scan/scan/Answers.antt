@@ -1,4 +1,4 @@
-use Rattle.std.proofs.Common.{◌≡◌, ◌∙◌, arith}
+use Rattle.std.proofs.Common.{◌∙◌, arith}
 use Rattle.o2_subseg.proofs.Words.{AreBytes}
 use Rattle.o2_subseg.proofs.Walks.{scan_walk, scan_none, scan_facts}
 use Rattle.o2_subseg.proofs.scan.scan.Goals as goal

@@ -9,6 +9,7 @@ use Rattle.o2_boundless.specs.declared.changing.Edit.{Edit}
 use Rattle.o2_boundless.specs.Edits.{changes_of}
 use Rattle.o2_boundless.specs.Outcomes.{slots_by}
 use Rattle.o2_boundless.specs.Shown.{before_call, known_by}
+use Rattle.o2_boundless.proofs.HeapRows.{by_heap_service}
 use Rattle.o2_boundless.proofs.Serving.{by_service, of_service}
 use Rattle.o2_boundless.proofs.world.World.outcome.Goals as goal
 
@@ -109,3 +110,18 @@ unfolding row_of
 returns-in-19 c =
     by_service c.args.service 19 c.args.slots.now (before_call c.args.self.now c.args.n c.args.process.now) (slice_index c.args.a.now) c.ruled-in-19.result (avail_by (before_call c.args.self.now c.args.n c.args.process.now) (slice_index c.args.a.now)) c.in-19.is c.requires.slots refl
     (c.ruled-in-19.ensures (before_call c.args.self.now c.args.n c.args.process.now) (avail_by (before_call c.args.self.now c.args.n c.args.process.now) (slice_index c.args.a.now)) (c.grants-in-19.ensures ∙ (ap (λ (es : List Edit). grants c.available.result (changes_of es)) c.new-in-19.ensures.items ∙ ap (λ (n : ℕ). grants n []) c.available.ensures)))
+
+pub returns-in-20 : goal.returns-in-20
+unfolding row_of
+returns-in-20 c =
+    by_heap_service c.args.service 20 c.args.slots.now (before_call c.args.self.now c.args.n c.args.process.now) (slice_index c.args.a.now) c.on_heap.result (slice_index c.args.a.now 2) c.in-20.is c.requires.slots refl c.on_heap.ensures
+
+pub returns-in-21 : goal.returns-in-21
+unfolding row_of
+returns-in-21 c =
+    by_heap_service c.args.service 21 c.args.slots.now (before_call c.args.self.now c.args.n c.args.process.now) (slice_index c.args.a.now) c.on_heap-in-21.result (slice_index c.args.a.now 3) c.in-21.is c.requires.slots refl c.on_heap-in-21.ensures
+
+pub returns-in-22 : goal.returns-in-22
+unfolding row_of
+returns-in-22 c =
+    by_heap_service c.args.service 22 c.args.slots.now (before_call c.args.self.now c.args.n c.args.process.now) (slice_index c.args.a.now) c.on_heap-in-22.result (slice_index c.args.a.now 2) c.in-22.is c.requires.slots refl c.on_heap-in-22.ensures
