@@ -1,7 +1,7 @@
 //! Test vectors of the proved step, as JSON: random states, the step from each, and its text.
 #![tactic(auto)]
 
-ghost use Rattle.std.specs.Prelude.{◌≡◌, ◌<◌, ℕ, List, IfOk, string_bytes};
+ghost use Rattle.std.specs.Prelude.{◌≡◌, ◌<◌, IfOk, string_bytes};
 ghost use Rattle.o2_isa.specs.declared.cpu.Outcome.{Outcome};
 ghost use Rattle.serde_json.specs.View.{view};
 ghost use Rattle.o2_vectors.specs.declared.state.Snapshot.{Snapshot as State};
@@ -18,6 +18,7 @@ use o2_decode::decode;
 use o2_isa::Decoded;
 use o2_text::line;
 use o2_tool::Shown;
+use rand_pcg::Pcg32;
 use serde_json::Value;
 pub use state::{Snapshot, opening};
 use std::alloc::{AllocError, Global};
@@ -70,4 +71,10 @@ pub fn made(alloc: Global, before: &Snapshot) -> Result<Value, AllocError>
     };
     let value = vector(alloc, name.as_str(), bytes_of(before), before, &taken)?;
     Ok(value)
+}
+
+/// The vector of a state whose instruction begins as wanted, as `made` makes it, as a text of JSON.
+pub fn text(alloc: Global, random: &mut Pcg32, wanted: &Wanted) -> Result<String, AllocError> {
+    let before = opening(random, wanted);
+    made(alloc, &before)?.to_string(alloc)
 }

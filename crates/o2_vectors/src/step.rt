@@ -1,7 +1,7 @@
 // A step from a state.
-ghost use Rattle.std.specs.Prelude.{◌≡◌, ◌≢◌, ◌<◌, ◌+◌, ◌==◌, ◌&&◌, ℕ, Bool, true, length, IfOk, OnOk, Some, None, if◌then◌else◌};
-ghost use Rattle.o2_bus.specs.Plain.{held_in, shown_in, bytes_in, count_in};
-ghost use Rattle.o2_bus.specs.Frames.{IsSeenAs, memory, KeepsSegments};
+ghost use Rattle.std.specs.Prelude.{◌≡◌, ◌+◌, ◌==◌, ◌&&◌, length, IfOk, OnOk, Some, if◌then◌else◌};
+ghost use Rattle.o2_bus.specs.Plain.{held_in, bytes_in, count_in};
+ghost use Rattle.o2_bus.specs.Frames.{IsSeenAs, memory};
 ghost use Rattle.o2_vectors.specs.Sight.{IsMemory, Steps, segments_of};
 
 use crate::state::Snapshot;

@@ -7,27 +7,39 @@ use clap::{Arg, ArgMatches, Command, value_parser};
 use o2_vectors::Wanted;
 use std::alloc::{AllocError, Global};
 
-/// The program's words.
-pub fn program<'a>(alloc: Global) -> Result<Command<'a>, AllocError> {
-    let opcode = Arg::new(alloc, "OPCODE").required(true).help(
+/// The word OPCODE.
+fn opcode<'a>(alloc: Global) -> Arg<'a> {
+    Arg::new(alloc, "OPCODE").required(true).help(
         "The first bytes in hexadecimal, prefixes too, as 00, F3A4 or 0F02; F7.4 asks for /4 in the ModRM byte",
-    );
-    let count = Arg::new(alloc, "COUNT")
+    )
+}
+
+/// The word COUNT.
+fn count<'a>(alloc: Global) -> Arg<'a> {
+    Arg::new(alloc, "COUNT")
         .required(true)
         .value_parser(value_parser!(u32).range(..=1_000_000))
-        .help("How many vectors");
-    let seed = Arg::new(alloc, "SEED")
+        .help("How many vectors")
+}
+
+/// The word SEED.
+fn seed<'a>(alloc: Global) -> Arg<'a> {
+    Arg::new(alloc, "SEED")
         .required(true)
         .value_parser(value_parser!(u64))
-        .help("A number; the same words give the same vectors");
+        .help("A number; the same words give the same vectors")
+}
+
+/// The program's words.
+pub fn program<'a>(alloc: Global) -> Result<Command<'a>, AllocError> {
     Command::new(alloc, "os2vectors")
         .version("1.0.0")
         .about(
             "Makes test vectors of the 80286's instructions in protected mode: the state before and after a step, as JSON",
         )
-        .arg(opcode)?
-        .arg(count)?
-        .arg(seed)
+        .arg(opcode(alloc))?
+        .arg(count(alloc))?
+        .arg(seed(alloc))
 }
 
 /// The value of a hexadecimal digit.

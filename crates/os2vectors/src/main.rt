@@ -3,8 +3,9 @@
 
 mod command;
 
+use clap::ArgMatches;
 use o2_tool::{MISUSED, answered, ended, words};
-use o2_vectors::{Wanted, made, opening};
+use o2_vectors::{Wanted, text};
 use rand_pcg::Pcg32;
 use std::process::ExitCode;
 
@@ -13,28 +14,37 @@ fn print_all(rt: &HostRuntime, wanted: &Wanted) -> anyhow::Result<ExitCode> {
     let mut random = Pcg32::new(wanted.seed, 54);
     println!(rt; "[")?;
     for number in 0..wanted.count {
-        let before = opening(&mut random, wanted);
-        let value = made(rt.alloc(), &before)?;
+        let vector = text(rt.alloc(), &mut random, wanted)?;
         let end = if number + 1 < wanted.count { "," } else { "" };
-        println!(rt; "{}{end}", value.to_string(rt.alloc())?)?;
+        println!(rt; "{vector}{end}")?;
     }
     println!(rt; "]")?;
     Ok(ExitCode::SUCCESS)
 }
 
-fn run(rt: &HostRuntime) -> anyhow::Result<ExitCode> {
-    let Some(words) = words(rt, "os2vectors")? else {
-        return Ok(ExitCode::from(MISUSED));
-    };
-    match command::program(rt.alloc())?.try_get_matches_from(words.as_slice()) {
+/// Does what matched words ask for.
+fn obey(rt: &HostRuntime, matches: &ArgMatches<'_>) -> anyhow::Result<ExitCode> {
+    match command::wish(rt.alloc(), matches)? {
+        Some(wanted) => print_all(rt, &wanted),
+        None => {
+            eprintln!(rt; "os2vectors: OPCODE is 1 to 10 bytes in hexadecimal, as F7 or F7.4")?;
+            Ok(ExitCode::from(MISUSED))
+        }
+    }
+}
+
+/// Does what the words ask for.
+fn asked(rt: &HostRuntime, words: &[String]) -> anyhow::Result<ExitCode> {
+    match command::program(rt.alloc())?.try_get_matches_from(words) {
         Err(error) => Ok(answered(rt, &error)?),
-        Ok(matches) => match command::wish(rt.alloc(), &matches)? {
-            Some(wanted) => print_all(rt, &wanted),
-            None => {
-                eprintln!(rt; "os2vectors: OPCODE is 1 to 10 bytes in hexadecimal, as F7 or F7.4")?;
-                Ok(ExitCode::from(MISUSED))
-            }
-        },
+        Ok(matches) => obey(rt, &matches),
+    }
+}
+
+fn run(rt: &HostRuntime) -> anyhow::Result<ExitCode> {
+    match words(rt, "os2vectors")? {
+        Some(words) => asked(rt, words.as_slice()),
+        None => Ok(ExitCode::from(MISUSED)),
     }
 }
 
