@@ -1,4 +1,2 @@
-pub mod Lines
-pub mod Changes
 pub mod Chosen
 pub mod Going

@@ -1,6 +1,6 @@
 // The words of the program.
 
-use clap::{Arg, ArgMatches, Command, value_parser};
+use clap::{Arg, ArgAction, ArgMatches, Command, value_parser};
 use std::alloc::{AllocError, Global};
 
 /// Which steps are shown.
@@ -14,24 +14,19 @@ pub struct Choice {
     pub process: u16,
     /// The selector that CS has at the step, or 0 for any.
     pub selector: u16,
+    /// Whether the bytes that a step changed are shown, too.
+    pub has_writes: bool,
+    /// Whether each step is an object of JSON.
+    pub is_json: bool,
 }
 
-/// The option `--from`.
-fn from_step<'a>(alloc: Global) -> Arg<'a> {
-    Arg::new(alloc, "from")
-        .long("from")
+/// An option that is the number of a step, from 1.
+fn step<'a>(alloc: Global, name: &'a str, help: &'a str) -> Arg<'a> {
+    Arg::new(alloc, name)
+        .long(name)
         .value_name("STEP")
         .value_parser(value_parser!(u64).range(1..))
-        .help("Shows the steps of the run from this one on, counted from 1")
-}
-
-/// The option `--to`.
-fn to_step<'a>(alloc: Global) -> Arg<'a> {
-    Arg::new(alloc, "to")
-        .long("to")
-        .value_name("STEP")
-        .value_parser(value_parser!(u64).range(1..))
-        .help("Ends behind this step")
+        .help(help)
 }
 
 /// The option `--process`.
@@ -51,26 +46,50 @@ fn selector<'a>(alloc: Global) -> Arg<'a> {
         .help("Shows the steps in this code segment alone, as 000F")
 }
 
-/// A subcommand with one file and the choices.
-fn with_file<'a>(alloc: Global, name: &'a str, about: &'a str) -> Result<Command<'a>, AllocError> {
-    Command::new(alloc, name)
-        .about(about)
-        .arg(from_step(alloc))?
-        .arg(to_step(alloc))?
-        .arg(process(alloc))?
-        .arg(selector(alloc))?
-        .arg(Arg::new(alloc, "FILE").required(true))
+/// An option without a value.
+fn flag<'a>(alloc: Global, name: &'a str, help: &'a str) -> Arg<'a> {
+    Arg::new(alloc, name)
+        .long(name)
+        .action(ArgAction::SetTrue)
+        .help(help)
 }
 
-/// A command with one more such subcommand.
-fn with_verb<'a>(
-    alloc: Global,
-    command: Command<'a>,
-    name: &'a str,
-    about: &'a str,
+/// A command with one more word.
+fn with<'a>(
+    command: Result<Command<'a>, AllocError>,
+    word: Arg<'a>,
 ) -> Result<Command<'a>, AllocError> {
-    let verb = with_file(alloc, name, about)?;
-    command.subcommand(verb)
+    command?.arg(word)
+}
+
+/// What the options that take a step say.
+const FROM: &str = "Shows the steps of the run from this one on, counted from 1";
+
+const TO: &str = "Ends behind this step";
+
+/// What the options that say how a step is shown say.
+const WRITES: &str = "Shows the bytes that each step changed, too";
+
+const JSON: &str = "Shows each step as an object of JSON in a line, with the bytes that it changed";
+
+/// A subcommand with one file and the choices.
+fn with_file<'a>(alloc: Global, name: &'a str, about: &'a str) -> Result<Command<'a>, AllocError> {
+    let command = Command::new(alloc, name).about(about);
+    let command = with(Ok(command), step(alloc, "from", FROM));
+    let command = with(command, step(alloc, "to", TO));
+    let command = with(command, process(alloc));
+    let command = with(command, selector(alloc));
+    let command = with(command, Arg::new(alloc, "FILE").required(true));
+    let command = with(command, flag(alloc, "writes", WRITES));
+    with(command, flag(alloc, "json", JSON))
+}
+
+/// A command with one more subcommand.
+fn with_verb<'a>(
+    command: Result<Command<'a>, AllocError>,
+    verb: Result<Command<'a>, AllocError>,
+) -> Result<Command<'a>, AllocError> {
+    command?.subcommand(verb?)
 }
 
 /// The program's words.
@@ -81,8 +100,9 @@ pub fn program<'a>(alloc: Global) -> Result<Command<'a>, AllocError> {
             "Runs what os2run runs, and shows each step: the process, CS:IP, the instruction, and the registers that it changed",
         )
         .subcommand_required(true);
-    let command = with_verb(alloc, command, "exe", "Traces an executable")?;
-    with_verb(alloc, command, "run", "Traces a machine file")
+    let exe = with_file(alloc, "exe", "Traces an executable");
+    let command = with_verb(Ok(command), exe);
+    with_verb(command, with_file(alloc, "run", "Traces a machine file"))
 }
 
 /// The choices in the words; none where the selector is no hexadecimal number from 1 to FFFF.
@@ -100,5 +120,7 @@ pub fn wish(matches: &ArgMatches<'_>) -> Option<Choice> {
         to: matches.get_one::<u64>("to").unwrap_or(u64::MAX),
         process: matches.get_one::<u16>("process").unwrap_or(0),
         selector,
+        has_writes: matches.get_flag("writes") || matches.get_flag("json"),
+        is_json: matches.get_flag("json"),
     })
 }

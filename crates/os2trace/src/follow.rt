@@ -1,6 +1,7 @@
-// The steps of a run, each with what the processor answers to it, which is asked before it is taken: a step that ends its process
-// leaves nothing to look at. It is asked over a copy of what the process holds.
-ghost use Rattle.std.specs.Prelude.{ℕ, ◌≡◌, ◌≤◌, ◌<◌, length, IfOk};
+// The steps of a run, each with what the processor answers to it and with the bytes that it changed: a step that ends its process leaves
+// nothing to look at. So what the process holds is copied before its step. Behind the step it is compared, and the processor is asked
+// over the copy, and does in it what the step did.
+ghost use Rattle.std.specs.Prelude.{ℕ, ◌≡◌, ◌≤◌, IfOk};
 ghost use Rattle.o2_conf.specs.Limits.{IsWithinLimits};
 ghost use Rattle.o2_machine.specs.GoesOver.{GoesOver};
 ghost use Rattle.o2_open.specs.Loads.{HasEnvironments, IsLinked};
@@ -10,19 +11,19 @@ ghost use Rattle.os2trace.specs.Chosen.{is_chosen, next_of};
 ghost use Rattle.os2trace.specs.Going.{IsGoing, AreShown};
 
 use crate::command::Choice;
+use crate::copied::{Copied, changes_of, copy_of, held};
+use crate::output::{put_lines, put_step};
 use crate::reading::{bytes_of, ten_at};
-use crate::show::{Before, show_exception, show_step};
 use o2_base::{NoMemory, Selector};
-use o2_bus::Plain;
 use o2_core::step_plain;
-use o2_desc::Access;
 use o2_isa::{Cpu, Outcome};
 use o2_machine::{BeginFault, Machine, Steps, Turn};
 use o2_open::Session;
 use o2_outer::{MemSink, StdinSource, SureSwap};
 use o2_place::SegId;
 use o2_sched::Pick;
-use o2_tool::{REFUSED, print_lines};
+use o2_tool::REFUSED;
+use o2_trace::{Before, Told, exception_of};
 use std::alloc::{AllocError, Global};
 use std::process::ExitCode;
 
@@ -40,24 +41,19 @@ fn sink(alloc: Global, room: usize) -> Result<MemSink, AllocError> {
     }
 }
 
-/// A memory in which a process holds what it holds in the machine.
-#[derive(Drop)]
-struct Copied {
-    process: u16,
-    memory: Plain,
-}
-
 /// What a machine has beside it.
 #[derive(Drop)]
 struct Outside {
-    /// The lines of the starts.
-    starts: MemSink,
     /// The standard input, which is read as the run asks for it.
     input: StdinSource,
+    /// What the turn puts to the console.
+    console: MemSink,
+    /// The lines of the turn; before the first one those of the starts.
+    report: MemSink,
     swap: SureSwap,
-    /// What the process of the last step holds, where the processor was asked for that step and has done it. A call of a service may
-    /// change what a process holds, and the step of another one the bytes that they share.
-    copied: Option<Copied>,
+    /// What the process of the step holds. It is copied anew where that may not be what the step before it left: a call of a service
+    /// may change what a process holds, and the step of another one the bytes that they share.
+    copied: Copied,
 }
 
 /// What stands beside a machine with so many swap blocks.
@@ -65,14 +61,12 @@ fn beside(rt: &HostRuntime, blocks: u32) -> Result<Outside, NoMemory>
     requires { blocks ≤ 65536 }
     ensures { IfOk result (λ o. swap_blocks o.swap ≡ blocks) }
 {
-    let starts = sink(rt.alloc(), START_ROOM)?;
-    let input = StdinSource::new(rt.alloc(), rt.reader())?;
-    let swap = SureSwap::new(rt.alloc(), blocks)?;
     Ok(Outside {
-        starts,
-        input,
-        swap,
-        copied: None,
+        input: StdinSource::new(rt.alloc(), rt.reader())?,
+        console: sink(rt.alloc(), STEP_ROOM)?,
+        report: sink(rt.alloc(), START_ROOM)?,
+        swap: SureSwap::new(rt.alloc(), blocks)?,
+        copied: Copied::new(rt.alloc())?,
     })
 }
 
@@ -90,19 +84,6 @@ fn next_process(machine: &mut Machine) -> Option<u16>
         Pick::AllEnded => None,
         Pick::BudgetSpent => None,
     }
-}
-
-/// The segment that a process holds at an index, and the rights to it; none where it holds none.
-fn held(machine: &Machine, process: u16, index: u16) -> Option<(SegId, u8)>
-    requires index { index < 8192 }
-{
-    let regions = &machine.space.regions;
-    if process == 0 || process > regions.processes() {
-        return None;
-    }
-    let held = regions.held(process, index)?;
-    let descriptor = regions.descriptor(process, index)?;
-    Some((held.id, Access(descriptor.access).rights().0))
 }
 
 /// The segment that a process holds under a selector with privilege level 3; none where it holds none.
@@ -137,126 +118,45 @@ fn code(
     }
 }
 
-/// Process `pid` holds the bytes of one more segment under an index.
-fn hold(
-    plain: &mut Plain,
-    alloc: Global,
-    pid: u16,
-    index: u16,
-    bytes: Vec<u8>,
-    access: u8,
-) -> Result<(), NoMemory>
-    requires some { 0 < length bytes.items }
-    requires small { length bytes.items ≤ 65536 }
-{
-    let name = plain.add(bytes)?;
-    plain.hold(alloc, pid, index, name, access)
-}
-
-/// The process holds in a copy what it holds at an index of the machine.
-fn copy_one(
-    alloc: Global,
-    machine: &Machine,
-    swap: &mut SureSwap,
-    process: u16,
-    index: u16,
-    copy: &mut Plain,
-) -> Result<(), NoMemory>
-    requires index { index < 8192 }
-    requires shown { AreShown machine.now }
-    ensures blocks { swap_blocks swap.new ≡ swap_blocks swap.old }
-{
-    let Some((id, access)) = held(machine, process, index) else {
-        return Ok(());
-    };
-    let Some(bytes) = bytes_of(alloc, &machine.space, id, swap)? else {
-        return Ok(());
-    };
-    if bytes.is_empty() || bytes.len() > 65536 {
-        return Ok(());
-    }
-    hold(copy, alloc, process, index, bytes, access)
-}
-
-/// The process holds in a copy what it holds in the machine.
-fn copy_all(
-    alloc: Global,
-    machine: &Machine,
-    swap: &mut SureSwap,
-    process: u16,
-    copy: &mut Plain,
-) -> Result<(), NoMemory>
-    requires shown { AreShown machine.now }
-    ensures blocks { swap_blocks swap.new ≡ swap_blocks swap.old }
-{
-    for index in 0..=8191u16 {
-        copy_one(alloc, machine, swap, process, index, copy)?;
-    }
-    Ok(())
-}
-
-/// The memory of a process: that in which its last step was done, or a new copy.
-fn memory_of(
-    alloc: Global,
-    machine: &Machine,
-    outside: &mut Outside,
-    process: u16,
-) -> Result<Plain, NoMemory>
-    requires shown { AreShown machine.now }
-    ensures blocks { swap_blocks outside.new.swap ≡ swap_blocks outside.old.swap }
-{
-    if let Some(copied) = outside.copied.take() {
-        if copied.process == process {
-            return Ok(copied.memory);
-        }
-    }
-    let mut copy = Plain::new(alloc)?;
-    copy_all(alloc, machine, &mut outside.swap, process, &mut copy)?;
-    Ok(copy)
-}
-
-/// What the processor answers to a step.
-fn answer_of(
-    alloc: Global,
-    machine: &Machine,
-    outside: &mut Outside,
-    before: &Before,
-) -> Result<Outcome, AllocError>
-    requires shown { AreShown machine.now }
-    ensures blocks { swap_blocks outside.new.swap ≡ swap_blocks outside.old.swap }
-{
-    let process = before.process;
-    let Ok(mut memory) = memory_of(alloc, machine, outside, process) else {
-        return Err(AllocError);
-    };
-    let mut cpu = before.cpu;
-    let answer = step_plain(&mut memory, process, &mut cpu);
-    if matches!(answer, Outcome::Done) {
-        outside.copied = Some(Copied { process, memory });
-    }
-    Ok(answer)
-}
-
-/// A step before it is taken, and what the processor answers to it.
-fn asked(
+/// A step before it is taken. What its process holds is copied.
+fn prepared(
     alloc: Global,
     machine: &Machine,
     outside: &mut Outside,
     process: u16,
     cpu: Cpu,
-) -> Result<(Before, Outcome), AllocError>
+) -> Result<Before, AllocError>
     requires shown { AreShown machine.now }
     ensures blocks { swap_blocks outside.new.swap ≡ swap_blocks outside.old.swap }
 {
     let (bytes, count) = code(alloc, machine, &mut outside.swap, process, &cpu)?;
-    let before = Before {
+    if copy_of(
+        alloc,
+        machine,
+        &mut outside.swap,
+        &mut outside.copied,
+        process,
+    )
+    .is_err()
+    {
+        return Err(AllocError);
+    }
+    Ok(Before {
         process,
         cpu,
         bytes,
         count,
-    };
-    let answer = answer_of(alloc, machine, outside, &before)?;
-    Ok((before, answer))
+    })
+}
+
+/// What the processor answers to a step, which is done in the copy of what its process holds.
+fn answer_of(copied: &mut Copied, before: &Before) -> Outcome {
+    let mut cpu = before.cpu;
+    let answer = step_plain(&mut copied.memory, before.process, &mut cpu);
+    if !matches!(answer, Outcome::Done) {
+        copied.process = 0;
+    }
+    answer
 }
 
 /// Whether a step is shown, by its number from 1, its process and the selector in CS.
@@ -282,34 +182,61 @@ fn chosen_step(machine: &mut Machine, choice: Choice, number: u64) -> Option<(u1
     }
 }
 
-/// Shows a step that was taken, and its exception where it ended in one.
+/// What is told of a step that was taken.
+fn told<'a>(
+    machine: &Machine,
+    outside: &'a Outside,
+    before: Before,
+    number: u64,
+    answer: Outcome,
+) -> Told<'a> {
+    let (after, exception) = match machine.process(before.process) {
+        Some((cpu, 0, _)) => (Some(cpu), None),
+        Some((_, 2, vector)) => (None, Some(exception_of(&before, vector, answer))),
+        _ => (None, None),
+    };
+    Told {
+        number,
+        before,
+        after,
+        exception,
+        changes: outside.copied.changes.as_slice(),
+        console: outside.console.taken(),
+        report: outside.report.taken(),
+    }
+}
+
+/// Shows a step that was taken.
 fn show(
     rt: &HostRuntime,
     machine: &Machine,
-    before: &Before,
-    answer: Outcome,
-) -> anyhow::Result<()> {
-    let Some((after, state, value)) = machine.process(before.process) else {
-        return Ok(());
-    };
-    show_step(rt, before, if state == 0 { Some(&after) } else { None })?;
-    if state == 2 {
-        show_exception(rt, before, value, answer)?;
+    outside: &mut Outside,
+    choice: Choice,
+    before: Before,
+    number: u64,
+) -> anyhow::Result<()>
+    requires shown { AreShown machine.now }
+    ensures blocks { swap_blocks outside.new.swap ≡ swap_blocks outside.old.swap }
+{
+    if choice.has_writes {
+        changes_of(rt.alloc(), machine, &mut outside.swap, &mut outside.copied)?;
     }
-    Ok(())
+    let answer = answer_of(&mut outside.copied, &before);
+    let told = told(machine, outside, before, number, answer);
+    put_step(rt, &told, choice.is_json)
 }
 
 /// One turn.
-fn turn(
-    machine: &mut Machine,
-    outside: &mut Outside,
-    console: &mut MemSink,
-    report: &mut MemSink,
-) -> Turn
+fn turn(machine: &mut Machine, outside: &mut Outside) -> Turn
     requires going { IsGoing machine.old outside.old.swap }
     ensures going { IsGoing machine.new outside.new.swap }
 {
-    machine.turn(&mut outside.input, console, report, &mut outside.swap)
+    machine.turn(
+        &mut outside.input,
+        &mut outside.console,
+        &mut outside.report,
+        &mut outside.swap,
+    )
 }
 
 /// Takes a step, and shows it; where the run stops before it, the stop line alone.
@@ -317,20 +244,20 @@ fn shown_turn(
     rt: &HostRuntime,
     machine: &mut Machine,
     outside: &mut Outside,
+    choice: Choice,
     step: (u16, Cpu),
-    console: &mut MemSink,
-    report: &mut MemSink,
+    number: u64,
 ) -> anyhow::Result<Turn>
     requires going { IsGoing machine.old outside.old.swap }
     ensures going { IsGoing machine.new outside.new.swap }
 {
-    let (before, answer) = asked(rt.alloc(), machine, outside, step.0, step.1)?;
-    let turn = turn(machine, outside, console, report);
+    let before = prepared(rt.alloc(), machine, outside, step.0, step.1)?;
+    let turn = turn(machine, outside);
     if matches!(turn, Turn::Ran) {
-        show(rt, machine, &before, answer)?;
+        show(rt, machine, outside, choice, before, number)?;
+    } else {
+        put_lines(rt, outside.report.taken(), choice.is_json)?;
     }
-    print_lines(rt, ">", console.taken())?;
-    print_lines(rt, "|", report.taken())?;
     Ok(turn)
 }
 
@@ -339,18 +266,26 @@ fn unseen_turn(
     rt: &HostRuntime,
     machine: &mut Machine,
     outside: &mut Outside,
-    console: &mut MemSink,
-    report: &mut MemSink,
+    choice: Choice,
 ) -> anyhow::Result<Turn>
     requires going { IsGoing machine.old outside.old.swap }
     ensures going { IsGoing machine.new outside.new.swap }
 {
-    outside.copied = None;
-    let turn = turn(machine, outside, console, report);
+    outside.copied.process = 0;
+    let turn = turn(machine, outside);
     if !matches!(turn, Turn::Ran) {
-        print_lines(rt, "|", report.taken())?;
+        put_lines(rt, outside.report.taken(), choice.is_json)?;
     }
     Ok(turn)
+}
+
+/// Empty sinks for a turn.
+fn empty(alloc: Global, outside: &mut Outside) -> Result<(), AllocError>
+    ensures blocks { swap_blocks outside.new.swap ≡ swap_blocks outside.old.swap }
+{
+    outside.console = sink(alloc, STEP_ROOM)?;
+    outside.report = sink(alloc, STEP_ROOM)?;
+    Ok(())
 }
 
 /// Takes the turn of this number, from 1.
@@ -364,11 +299,10 @@ fn turned(
     requires going { IsGoing machine.old outside.old.swap }
     ensures going { IsGoing machine.new outside.new.swap }
 {
-    let mut console = sink(rt.alloc(), STEP_ROOM)?;
-    let mut report = sink(rt.alloc(), STEP_ROOM)?;
+    empty(rt.alloc(), outside)?;
     match chosen_step(machine, choice, number) {
-        Some(step) => shown_turn(rt, machine, outside, step, &mut console, &mut report),
-        None => unseen_turn(rt, machine, outside, &mut console, &mut report),
+        Some(step) => shown_turn(rt, machine, outside, choice, step, number),
+        None => unseen_turn(rt, machine, outside, choice),
     }
 }
 
@@ -381,7 +315,7 @@ fn follow_on(
 ) -> anyhow::Result<ExitCode>
     requires going { IsGoing machine.old outside.old.swap }
 {
-    print_lines(rt, "|", outside.starts.taken())?;
+    put_lines(rt, outside.report.taken(), choice.is_json)?;
     for number in 1..=choice.to.min(1 << 60) {
         match turned(rt, machine, outside, choice, number)? {
             Turn::Ran => {}
@@ -410,6 +344,17 @@ fn machine_of(alloc: Global, session: Session, starts: &mut MemSink) -> Result<M
     }
 }
 
+/// What is said of a machine that doesn't begin.
+fn not_begun(rt: &HostRuntime, fault: BeginFault) -> anyhow::Result<ExitCode> {
+    match fault {
+        BeginFault::Start(_, _) => {
+            eprintln!(rt; "os2trace: it doesn't start: `os2why` with the same words says why")?;
+            Ok(ExitCode::from(REFUSED))
+        }
+        _ => anyhow::bail!("there is no memory"),
+    }
+}
+
 /// Shows the run of a session.
 fn begun(
     rt: &HostRuntime,
@@ -422,13 +367,9 @@ fn begun(
     requires linked { IsLinked session.conf session.linked }
     requires blocks { session.conf.swap ≤ swap_blocks outside.old.swap }
 {
-    match machine_of(rt.alloc(), session, &mut outside.starts) {
+    match machine_of(rt.alloc(), session, &mut outside.report) {
         Ok(mut machine) => follow_on(rt, &mut machine, outside, choice),
-        Err(BeginFault::Start(_, _)) => {
-            eprintln!(rt; "os2trace: it doesn't start: `os2why` with the same words says why")?;
-            Ok(ExitCode::from(REFUSED))
-        }
-        Err(_) => anyhow::bail!("there is no memory"),
+        Err(fault) => not_begun(rt, fault),
     }
 }
 

@@ -7,9 +7,10 @@ ghost use Rattle.o2_open.specs.Loads.{HasEnvironments, IsLinked};
 ghost use Rattle.o2_words.specs.Words.{HasCount};
 
 mod command;
+mod copied;
 mod follow;
+mod output;
 mod reading;
-mod show;
 
 use clap::ArgMatches;
 use command::{Choice, wish};
@@ -39,18 +40,25 @@ fn opened(rt: &HostRuntime, verb: Verb, name: &Bytes) -> Result<Session, OpenFau
     open(rt.alloc(), verb, &mut files, name)
 }
 
+/// What is said of a command that isn't opened.
+fn not_opened(rt: &HostRuntime, fault: OpenFault) -> anyhow::Result<ExitCode> {
+    match fault {
+        OpenFault::FileFault => anyhow::bail!("a file can't be read"),
+        OpenFault::NoMemory => anyhow::bail!("there is no memory"),
+        _ => {
+            eprintln!(rt; "os2trace: it isn't opened: `os2why` with the same words says why")?;
+            Ok(ExitCode::from(REFUSED))
+        }
+    }
+}
+
 /// Traces what the command opens.
 fn trace(rt: &HostRuntime, verb: Verb, name: &Bytes, choice: Choice) -> anyhow::Result<ExitCode>
     requires { HasCount verb }
 {
     match opened(rt, verb, name) {
         Ok(session) => follow(rt, session, choice),
-        Err(OpenFault::FileFault) => anyhow::bail!("a file can't be read"),
-        Err(OpenFault::NoMemory) => anyhow::bail!("there is no memory"),
-        Err(_) => {
-            eprintln!(rt; "os2trace: it isn't opened: `os2why` with the same words says why")?;
-            Ok(ExitCode::from(REFUSED))
-        }
+        Err(fault) => not_opened(rt, fault),
     }
 }
 

@@ -1,17 +1,16 @@
-// The lines of a trace.
+// The line of a step.
 ghost use Rattle.std.specs.Prelude.{◌≡◌, ◌≤◌, ◌++◌, [], IfOk, IfNone, IfSome, OnOk, string_bytes};
 ghost use Rattle.o2_text.specs.Text.{text_of};
 ghost use Rattle.o2_tool.specs.Text.{shown_text};
-ghost use Rattle.os2trace.specs.Changes.{change_text, general_text, pointers_text, segments_text, changes_text};
-ghost use Rattle.os2trace.specs.Lines.{at_ip, code_text, front_text, next_ip, rest_text, shown_count, step_text};
+ghost use Rattle.o2_trace.specs.Registers.{change_text, general_text, pointers_text, segments_text, changes_text};
+ghost use Rattle.o2_trace.specs.Lines.{at_ip, code_text, front_text, next_ip, rest_text, shown_count, step_text};
 
 use o2_base::NoMemory;
 use o2_decode::decode;
-use o2_isa::{Arg, Cpu, Decoded, Instr, Op, Outcome, Sreg};
+use o2_isa::{Cpu, Decoded, Instr};
 use o2_text::line;
 use o2_tool::{Hex, Shown, blanks, filling};
 use std::alloc::{AllocError, Global};
-use std::io;
 
 /// A step before it is taken: its process, the registers, and the bytes at CS:IP.
 #[derive(Clone, Copy)]
@@ -23,7 +22,7 @@ pub struct Before {
 }
 
 /// What the bytes at CS:IP spell.
-fn spelled(before: &Before) -> Decoded
+pub(crate) fn spelled(before: &Before) -> Decoded
     ensures { result ≡ at_ip before.now }
 {
     decode(&before.bytes[..before.count.min(10)])
@@ -122,7 +121,7 @@ fn next_ip(ip: u16, decoded: &Decoded) -> u16
 
 /// The text of the instruction, or that there is none.
 #[tactic(auto, unfolding(crate::specs::Lines::code_text))]
-fn code_text(alloc: Global, ip: u16, decoded: &Decoded) -> Result<String, AllocError>
+pub(crate) fn code_text(alloc: Global, ip: u16, decoded: &Decoded) -> Result<String, AllocError>
     ensures { IfOk result (λ s. string_bytes s ≡ code_text ip decoded.now) }
 {
     match decoded {
@@ -138,7 +137,7 @@ fn code_text(alloc: Global, ip: u16, decoded: &Decoded) -> Result<String, AllocE
 
 /// How many bytes are shown: those of the instruction, or all that were looked at.
 #[tactic(auto, unfolding(crate::specs::Lines::shown_count))]
-fn shown_count(known: usize, decoded: &Decoded) -> usize
+pub(crate) fn shown_count(known: usize, decoded: &Decoded) -> usize
     ensures exact { result ≡ shown_count known decoded.now }
     ensures within { result ≤ known }
 {
@@ -199,92 +198,13 @@ fn changes_behind(alloc: Global, before: &Before, after: Option<&Cpu>) -> Result
     }
 }
 
-/// Shows a step that was taken, in a line.
-pub fn show_step(rt: &HostRuntime, before: &Before, after: Option<&Cpu>) -> anyhow::Result<()> {
-    let changed = changes_behind(rt.alloc(), before, after)?;
-    let line = step_line(rt.alloc(), before, changed.as_str())?;
-    println!(rt; "{line}")?;
-    Ok(())
-}
-
-/// A segment register's name, and what it holds.
-fn segment_of(cpu: &Cpu, reg: Sreg) -> (&'static str, u16) {
-    match reg {
-        Sreg::Es => ("ES", cpu.es),
-        Sreg::Cs => ("CS", cpu.cs),
-        Sreg::Ss => ("SS", cpu.ss),
-        Sreg::Ds => ("DS", cpu.ds),
-    }
-}
-
-/// The segment registers of an instruction's operands in memory. A string instruction that writes one writes it in ES.
-fn segments_of(instr: &Instr) -> (Option<Sreg>, Option<Sreg>) {
-    match instr.op {
-        Op::OpMovs | Op::OpCmps => (Some(instr.seg), Some(Sreg::Es)),
-        Op::OpLods | Op::OpXlat => (Some(instr.seg), None),
-        Op::OpStos | Op::OpScas => (Some(Sreg::Es), None),
-        // what only a system may do is refused before its operand is looked at
-        Op::OpLgdt | Op::OpLidt | Op::OpLldt | Op::OpLtr | Op::OpLmsw => (None, None),
-        // the target that is read may be what is refused
-        Op::OpCallAt | Op::OpJmpAt | Op::OpCallFarAt | Op::OpJmpFarAt => (None, None),
-        _ => match (&instr.left, &instr.right) {
-            // so may an empty selector for SS
-            (Arg::S(Sreg::Ss), _) => (None, None),
-            (Arg::M(ea), _) => (Some(ea.seg), None),
-            (_, Arg::M(ea)) => (Some(ea.seg), None),
-            _ => (None, None),
-        },
-    }
-}
-
-/// The segment registers by which an instruction may have ended in an exception: that of the stack, or those of its operands. There is
-/// none where the error code is a selector, where LOCK isn't allowed, and where it may have ended so by something else, too.
-fn segments_by(vector: u8, code: u16, instr: &Instr) -> (Option<Sreg>, Option<Sreg>) {
-    if vector == 12 {
-        return (Some(Sreg::Ss), None);
-    }
-    if vector != 13 || code != 0 || instr.lock {
-        return (None, None);
-    }
-    segments_of(instr)
-}
-
-/// The segment registers by which an instruction may have ended in an exception, where there are any.
-fn show_segments(rt: &HostRuntime, before: &Before, vector: u8, code: u16) -> io::Result<()> {
-    let Decoded::One(instr, _) = spelled(before) else {
-        return Ok(());
-    };
-    let (first, second) = segments_by(vector, code, &instr);
-    if let Some(reg) = first {
-        let (name, selector) = segment_of(&before.cpu, reg);
-        print!(rt; ", segment {name}={selector:04X}")?;
-    }
-    if let Some(reg) = second {
-        let (name, selector) = segment_of(&before.cpu, reg);
-        print!(rt; " or {name}={selector:04X}")?;
-    }
-    Ok(())
-}
-
-/// The exception by which a step ended its process, where the processor answered so to the step: of an instruction with its error code
-/// and its segment; of a service, whose exceptions have the code 0; and that of the trap flag, which comes behind a step that is done.
-pub fn show_exception(
-    rt: &HostRuntime,
-    before: &Before,
-    number: u16,
-    answer: Outcome,
-) -> io::Result<()> {
-    match answer {
-        Outcome::Trap(vector, code) => {
-            print!(rt; "! exception {vector}, error code {code:04X}")?;
-            show_segments(rt, before, vector, code)?;
-        }
-        Outcome::Gate { .. } => print!(rt;
-            "! exception {number}, error code 0000, in the service"
-        )?,
-        Outcome::Done | Outcome::Miss(_) => {
-            print!(rt; "! exception {number}, error code 0000, behind the step")?
-        }
-    }
-    println!(rt; "")
+/// The line of a step that was taken: process, CS:IP, the bytes and the text of the instruction, and the registers that it changed; of one
+/// that ended its process, none.
+pub fn step_text(alloc: Global, before: &Before, after: Option<&Cpu>) -> Result<String, AllocError>
+    ensures ended { IfOk result (λ s. IfNone after.entry (string_bytes s ≡ step_text before.now [])) }
+    ensures done { IfOk result (λ s. IfSome after.entry (λ new. string_bytes s ≡ step_text before.now
+        (changes_text before.now.cpu new.now (next_ip before.now.cpu.ip (at_ip before.now))))) }
+{
+    let changed = changes_behind(alloc, before, after)?;
+    step_line(alloc, before, changed.as_str())
 }

@@ -6,7 +6,7 @@ use Rattle.o2_isa.specs.declared.rows.Decoded.TheVariants.{One, Invalid, TooLong
 use Rattle.o2_isa.specs.Reading.{decoded}
 use Rattle.o2_text.specs.Text.{text_of}
 use Rattle.o2_tool.specs.Text.{hex4, hex_text, shown_text}
-use Rattle.os2trace.specs.declared.show.Before.{Before}
+use Rattle.o2_trace.specs.declared.step.Before.{Before}
 
 -- what the bytes at CS:IP spell
 abbrev pub at_ip : Before → Decoded

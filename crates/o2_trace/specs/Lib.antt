@@ -1,0 +1,5 @@
+pub mod Bytes
+pub mod Lines
+pub mod Registers
+pub mod Json
+pub mod Exceptions

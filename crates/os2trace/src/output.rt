@@ -1,0 +1,49 @@
+// The lines of a trace.
+
+use o2_tool::print_lines;
+use o2_trace::{Told, change_text, exception_text, report_json, step_json, step_text};
+
+/// The exception that ended a process, in a line.
+fn put_exception(rt: &HostRuntime, told: &Told<'_>) -> anyhow::Result<()> {
+    if let Some(exception) = &told.exception {
+        let text = exception_text(rt.alloc(), exception, &told.before.cpu)?;
+        println!(rt; "! {text}")?;
+    }
+    Ok(())
+}
+
+/// The changed bytes, in lines.
+fn put_changes(rt: &HostRuntime, told: &Told<'_>) -> anyhow::Result<()> {
+    let text = change_text(rt.alloc(), told.changes)?;
+    Ok(print_lines(rt, "*", text.as_bytes())?)
+}
+
+/// A step, in lines.
+fn put_text(rt: &HostRuntime, told: &Told<'_>) -> anyhow::Result<()> {
+    let line = step_text(rt.alloc(), &told.before, told.after.as_ref())?;
+    println!(rt; "{line}")?;
+    put_exception(rt, told)?;
+    put_changes(rt, told)?;
+    print_lines(rt, ">", told.console)?;
+    Ok(print_lines(rt, "|", told.report)?)
+}
+
+/// A step, in lines or as an object of JSON.
+pub fn put_step(rt: &HostRuntime, told: &Told<'_>, is_json: bool) -> anyhow::Result<()> {
+    if is_json {
+        let line = step_json(rt.alloc(), told)?;
+        println!(rt; "{line}")?;
+        return Ok(());
+    }
+    put_text(rt, told)
+}
+
+/// Lines of the report that no step put, as lines or as an object of JSON.
+pub fn put_lines(rt: &HostRuntime, report: &[u8], is_json: bool) -> anyhow::Result<()> {
+    if is_json && !report.is_empty() {
+        let line = report_json(rt.alloc(), report)?;
+        println!(rt; "{line}")?;
+        return Ok(());
+    }
+    Ok(print_lines(rt, "|", report)?)
+}
