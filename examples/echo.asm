@@ -9,31 +9,31 @@ bits 16
 ;@ segment 1 code
 section s1 vstart=0
 ; the next piece of the input
-L0000:  push 0                          ; the standard input
+next:   push 0                          ; the standard input
         push ds                         ; the buffer
         push strict word 0
         push 256                        ; its length
         push ds                         ; where the count of bytes read goes
         push 0100h
         call 0:0FFFFh                   ;@+1 far DOSCALLS.137 DosRead
-        db 11, 0C0h                     ; AX is the error number
-        db 75h, 30h
+        db 0Bh, 0C0h                    ; or ax, ax: AX is the error number
+        jnz done
         mov cx, [0100h]
-        db 0E3h, 2Ah                    ; no bytes: the input is over
+        jcxz done                       ; no bytes: the input is over
 ; each letter of it in upper case
         push ds
         pop es
-        db 33h, 0F6h
-        db 33h, 0FFh
+        db 33h, 0F6h                    ; xor si, si
+        db 33h, 0FFh                    ; xor di, di
         cld
-L0023:  lodsb
+letter: lodsb
         cmp al, 'a'
-        jb L002E
+        jb put
         cmp al, 'z'
-        ja L002E
+        ja put
         sub al, 20h
-L002E:  stosb
-        loop L0023
+put:    stosb
+        loop letter
 ; and out
         push 1                          ; the standard output
         push ds
@@ -42,9 +42,9 @@ L002E:  stosb
         push ds
         push 0102h
         call 0:0FFFFh                   ;@+1 far DOSCALLS.138 DosWrite
-        db 0EBh, 0BAh
+        jmp short next
 ; the end
-L0046:  push 1
+done:   push 1
         push 0
         call 0:0FFFFh                   ;@+1 far DOSCALLS.5 DosExit
 

@@ -22,4 +22,4 @@ section s1 vstart=0
 ;@ segment 2 data auto
 section s2 vstart=0
         db 'hello'
-        times 11 db 0
+        times 16-($-$$) db 0            ; the count of bytes written is at 0006

@@ -19,7 +19,7 @@ section s1 vstart=0
         xor di, di
 ; the next piece of the input
 L0017:  push 0                          ; the standard input
-        push es                         ; behind what there is already
+        push es                         ; after what there is already
         push di
         push 256                        ; how many bytes at most
         push ds                         ; where the count of bytes read goes
@@ -29,7 +29,7 @@ L0017:  push 0                          ; the standard input
         jnz L0044
         mov cx, [0002h]
         jcxz L004C                      ; no bytes: the input is over
-; and room behind it for one more
+; and room after it for one more
         add di, cx
         mov ax, di
         add ax, 256

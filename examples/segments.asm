@@ -11,9 +11,9 @@ bits 16
 section s1 vstart=0
         mov ax, 0FFFFh                  ;@+1 selector 5
         mov es, ax
-        db 33h, 0DBh
+        db 33h, 0DBh                    ; xor bx, bx
 L0007:  mov si, es:[bx]
-        db 11, 0F6h
+        db 0Bh, 0F6h                    ; or si, si
         jz L0019
         push bx
         call 0:0FFFFh                   ;@+1 far 2:0000 print
@@ -42,7 +42,7 @@ section s2 vstart=0
 ;@ segment 3 code
 section s3 vstart=0
         push si
-        db 33h, 0C9h
+        db 33h, 0C9h                    ; xor cx, cx
 L0003:  cmp byte es:[si], 0
         jz L000D
         inc si

@@ -11,27 +11,27 @@ section s1 vstart=0
         mov es, ax                      ; AX is the environment's selector
         xor si, si
 ; the strings of the environment, up to an empty one
-L0004:  cmp byte es:[si], 0
-        je L000F
-        call L0020
-        jmp short L0004
+next:   cmp byte es:[si], 0
+        je names
+        call show
+        jmp short next
 ; BX is the command line's offset: the name, then the arguments
-L000F:  mov si, bx
-        call L0020
-        call L0020
+names:  mov si, bx
+        call show
+        call show
         push 1
         push 0
         call 0:0FFFFh                   ;@+1 far DOSCALLS.5 DosExit
 
-; show: writes the text at ES:SI and a line end, and moves SI behind the text's zero
-L0020:  mov di, si
+; show: writes the text at ES:SI and a line end, and moves SI past the text's zero
+show:   mov di, si
         xor cx, cx
-L0024:  cmp byte es:[di], 0
-        je L002E
+count:  cmp byte es:[di], 0
+        je out
         inc di
         inc cx
-        jmp short L0024
-L002E:  push di
+        jmp short count
+out:    push di
         push 1
         push es
         push si

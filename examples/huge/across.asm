@@ -34,7 +34,7 @@ section s1 vstart=0
         push 4
         call 0:0FFFFh                   ;@+1 far DOSCALLS.DosWrite DosWrite
         push 1
-        push es                         ; and the two behind it
+        push es                         ; and the two after it
         push 0
         push 2
         push ds

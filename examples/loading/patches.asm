@@ -11,20 +11,21 @@ bits 16
 section s1 vstart=0
 ; each line: at what offset its bytes stand and how many there are, up to 0 bytes
         mov si, 0
-L0003:  mov bx, [si]
+next:   mov bx, [si]
         mov cx, [si+2]
-        jcxz L003D
+        jcxz done
 ; CX bytes at DS:BX, in hexadecimal to DS:64
         mov di, 64
-L000D:  mov al, [bx]
-        shr al, 4
-        call L0046
+next_byte:
         mov al, [bx]
-        call L0046
+        shr al, 4
+        call digit
+        mov al, [bx]
+        call digit
         mov byte [di], ' '
         inc di
         inc bx
-        loop L000D
+        loop next_byte
         mov byte [di-1], 10
 ; from 64 up to DI
         sub di, 64
@@ -38,18 +39,18 @@ L000D:  mov al, [bx]
         call 0:0FFFFh                   ;@+1 far DOSCALLS.138 DosWrite
         pop si
         add si, 4
-        jmp short L0003
-L003D:  push 1
+        jmp short next
+done:   push 1
         push 0
         call 0:0FFFFh                   ;@+1 far DOSCALLS.5 DosExit
 
 ; digit: the low four bits of AL as a digit at DS:DI
-L0046:  and al, 15
+digit:  and al, 15
         add al, '0'
         cmp al, '9'
-        jbe L0050
+        jbe put
         add al, 7
-L0050:  mov [di], al
+put:    mov [di], al
         inc di
         ret
 

@@ -17,14 +17,14 @@ L0003:  push 8192
         push 0
         call 0:0FFFFh                   ;@+1 far DOSCALLS.DosAllocSeg DosAllocSeg
         mov es, [si]
-        db 8Bh, 0C6h
+        db 8Bh, 0C6h                    ; mov ax, si
         add al, 'a'
         mov es:[0], al                  ; a, c and e
         inc si
         inc si
         cmp si, 6
         jnz L0003
-        db 33h, 0C0h
+        db 33h, 0C0h                    ; xor ax, ax
         mov es, ax
         push word [0]
         call 0:0FFFFh                   ;@+1 far DOSCALLS.DosFreeSeg DosFreeSeg

@@ -9,7 +9,7 @@ bits 16
 ;@ segment 1 code
 section s1 vstart=0
         mov cx, 3
-L0003:  xor ax, ax
+again:  xor ax, ax
         mov es, ax                      ; neither is needed now
         mov ax, 0FFFFh                  ;@+1 selector 3
         mov es, ax
@@ -19,7 +19,7 @@ L0003:  xor ax, ax
         mov ax, 0FFFFh                  ;@+1 selector 4
         mov es, ax
         inc byte es:[0]
-        loop L0003
+        loop again
         mov al, es:[0]
         xor ah, ah
         push 1

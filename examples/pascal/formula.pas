@@ -1,4 +1,4 @@
-{ Reads formulas of x, one in each line, with the operators behind what they work on: `x x * 3 -` is x times x less 3. It makes machine
+{ Reads formulas of x, one in each line, with the operators after what they work on: `x x * 3 -` is x times x less 3. It makes machine
   code of each, calls that for x from 0 to 9, and writes the line with the results.
 
   The code lies in one segment for all formulas, which is written as data and called by an alias of the segment as code. The segment
@@ -19,7 +19,7 @@ var
   character: char;
   ended: boolean;
 
-{ Reads the next character of the input; a line end stands behind its last. }
+{ Reads the next character of the input; a line end follows its last. }
 procedure Next;
 var
   done: word;

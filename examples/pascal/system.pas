@@ -37,6 +37,9 @@ function DosFreeSeg(selector: word): word; pascal; far; external name 'DosFreeSe
 function DosSizeSeg(selector: word; var size: longword): word; pascal; far; external name 'DosSizeSeg';
 function DosLockSeg(selector: word): word; pascal; far; external name 'DosLockSeg';
 function DosUnlockSeg(selector: word): word; pascal; far; external name 'DosUnlockSeg';
+function DosSubSet(selector, flags, size: word): word; pascal; far; external name 'DosSubSet';
+function DosSubAlloc(selector: word; var offset: word; size: word): word; pascal; far; external name 'DosSubAlloc';
+function DosSubFree(selector, offset, size: word): word; pascal; far; external name 'DosSubFree';
 function DosCreateCSAlias(selector: word; var alias: word): word; pascal; far; external name 'DosCreateCSAlias';
 
 { The far pointer with this selector and this offset. }
@@ -81,7 +84,11 @@ asm
   pop ds
 end;
 
+{$ifdef SUBHEAP}
+{$i subheap.inc}
+{$else}
 {$i heap.inc}
+{$endif}
 
 var
   line: array[0..127] of char;

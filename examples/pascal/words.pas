@@ -12,7 +12,7 @@ type
   ptext = ^shortstring;
   pnode = ^tnode;
   tnode = record
-    left, right: pnode;         { the words before it and behind it by the alphabet }
+    left, right: pnode;         { the words before it and after it by the alphabet }
     next: pnode;                { the next word of the list }
     text: ptext;
     count: word;

@@ -12,9 +12,9 @@ section s1 vstart=0
         push 0
         call 0:0FFFFh                   ;@+1 far DOSCALLS.94 DosGetPID
         mov cx, 3
-L000B:  mov ax, [0]                     ; the process's number
+again:  mov ax, [0]                     ; the process's number
         add [6], ax                     ; the sum
-        loop L000B
+        loop again
 ; both as digits, and out
         mov al, [0]
         add al, '0'

@@ -1,4 +1,4 @@
-; frame: a read by BP behind the end of the stack segment.
+; frame: a read by BP past the end of the stack segment.
 
 ;@ module FRAME
 ;@ stack 512

@@ -1,4 +1,4 @@
-; jump: a jump behind the end of the code.
+; jump: a jump past the end of the code.
 
 ;@ module JUMP
 ;@ stack 512

@@ -1,4 +1,4 @@
-; past: a write behind the end of the data segment.
+; past: a write past the end of the data segment.
 
 ;@ module PAST
 ;@ stack 512

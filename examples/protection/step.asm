@@ -1,4 +1,4 @@
-; step: the trap flag: the instruction behind POPF is done, and then exception 1 follows.
+; step: the trap flag: the instruction after POPF is done, and then exception 1 follows.
 
 ;@ module STEP
 ;@ stack 512

@@ -1,4 +1,4 @@
-; wait: WAIT does nothing; an undefined instruction behind it ends the process.
+; wait: WAIT does nothing; an undefined instruction after it ends the process.
 
 ;@ module WAIT
 ;@ stack 512

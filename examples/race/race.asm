@@ -11,24 +11,24 @@ section s1 vstart=0
         mov ax, 0FFFFh                  ;@+1 selector 3
         mov es, ax
         mov cx, 100
-L0008:  mov ax, es:[0]                  ; read
+again:  mov ax, es:[0]                  ; read
         inc ax                          ; add
         mov es:[0], ax                  ; write
-        loop L0008
+        loop again
 ; the counter in hexadecimal
         mov bx, es:[0]
         mov si, 0
         mov cx, 4
-L001E:  rol bx, 4
+digit:  rol bx, 4
         mov al, bl
         and al, 15
         add al, '0'
         cmp al, '9'
-        jbe L002D
+        jbe put
         add al, 7
-L002D:  mov [si], al
+put:    mov [si], al
         inc si
-        loop L001E
+        loop digit
         mov byte [si], 10
         push 1
         push ds

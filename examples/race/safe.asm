@@ -11,22 +11,22 @@ section s1 vstart=0
         mov ax, 0FFFFh                  ;@+1 selector 3
         mov es, ax
         mov cx, 100
-L0008:  inc word es:[0]                 ; read, add and write in one step
-        loop L0008
+again:  inc word es:[0]                 ; read, add and write in one step
+        loop again
 ; the counter in hexadecimal
         mov bx, es:[0]
         mov si, 0
         mov cx, 4
-L001A:  rol bx, 4
+digit:  rol bx, 4
         mov al, bl
         and al, 15
         add al, '0'
         cmp al, '9'
-        jbe L0029
+        jbe put
         add al, 7
-L0029:  mov [si], al
+put:    mov [si], al
         inc si
-        loop L001A
+        loop digit
         mov byte [si], 10
         push 1
         push ds

@@ -11,7 +11,7 @@ bits 16
 section s1 vstart=0
         mov bx, 7                       ; index 0 of the local table
 ; next: a line of its own, first of blanks
-L0003:  mov di, 5
+next:   mov di, 5
         mov cx, 9
         mov al, ' '
         push ds
@@ -20,15 +20,15 @@ L0003:  mov di, 5
         rep stosb
         mov di, 0
         mov ax, bx
-        call L004C
+        call hex
         lar ax, bx                      ; ZF is 0 where there is none
-        jnz L002C
+        jnz write
         mov di, 5
-        call L004C
+        call hex
         lsl ax, bx
         mov di, 10
-        call L004C
-L002C:  push 1                          ; the standard output
+        call hex
+write:  push 1                          ; the standard output
         push ds                         ; the line
         push 0
         push 15                         ; its length
@@ -37,23 +37,23 @@ L002C:  push 1                          ; the standard output
         call 0:0FFFFh                   ;@+1 far DOSCALLS.138 DosWrite
         add bx, 8
         cmp bx, 37h
-        jbe L0003
+        jbe next
         push 1
         push 0
         call 0:0FFFFh                   ;@+1 far DOSCALLS.5 DosExit
 
 ; hex: AX in four digits at DI
-L004C:  mov cx, 4
-L004F:  rol ax, 4
+hex:    mov cx, 4
+digit:  rol ax, 4
         mov dx, ax
         and dl, 15
         add dl, '0'
         cmp dl, '9'
-        jbe L0062
+        jbe put
         add dl, 7
-L0062:  mov [di], dl
+put:    mov [di], dl
         inc di
-        loop L004F
+        loop digit
         ret
 
 ; the line, with its end, and the count of bytes written

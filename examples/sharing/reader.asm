@@ -8,16 +8,16 @@ bits 16
 
 ;@ segment 1 code
 section s1 vstart=0
-L0000:  push ds                         ; the name
+ask:    push ds                         ; the name
         push 0004h
         push ds                         ; where the selector goes
         push 0
         call 0:0FFFFh                   ;@+1 far DOSCALLS.36 DosGetShrSeg
         or ax, ax
-        jnz L0000                       ; nobody has made it yet
+        jnz ask                         ; nobody has made it yet
         mov es, [0]
-L0013:  cmp byte es:[0], 1              ; is it written?
-        jnz L0013
+look:   cmp byte es:[0], 1              ; is it written?
+        jnz look
         push 1                          ; the standard output
         push es                         ; the text
         push 1

@@ -9,8 +9,8 @@ bits 16
 ;@ segment 1 code
 section s1 vstart=0
         mov ax, 8007h                   ; the first selector that all share
-L0003:  verr ax                         ; may it be read?
-        jnz L0003                       ; not yet
+ask:    verr ax                         ; may it be read?
+        jnz ask                         ; not yet
         mov es, ax
         push 1                          ; the standard output
         push es                         ; the text

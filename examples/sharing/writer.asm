@@ -20,8 +20,8 @@ section s1 vstart=0
         mov cx, 6
         rep movsb
         mov byte es:[0], 1              ; it is written
-L0022:  cmp byte es:[0], 2              ; has the reader done?
-        jnz L0022
+again:  cmp byte es:[0], 2              ; has the reader done?
+        jnz again
         push 1
         push 0
         call 0:0FFFFh                   ;@+1 far DOSCALLS.5 DosExit
