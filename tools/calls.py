@@ -1,7 +1,6 @@
 #!/usr/bin/env python3
-"""Prints the table of OS/2 1.x's calls, tools/lib/calls.toml: module, ordinal, name, the words of the arguments on the stack, and the source of
-the row, which that file tells. A call without a row isn't known here with certainty. Which of them the machine has, `os2why imports` says of
-an executable.
+"""Prints the table of OS/2 1.x's calls, tools/lib/calls.toml: module, ordinal, name, the words of the arguments on the stack, the source of
+the row, which that file tells, and `here` if the machine has the call. A call without a row isn't known here with certainty.
 """
 import functools
 import os
@@ -14,10 +13,20 @@ import command
 
 
 @functools.cache
+def read():
+    with open(os.path.join(command.ROOT, "tools", "lib", "calls.toml"), "rb") as file:
+        found = tomllib.load(file)
+    return found.pop("here"), found
+
+
 def table():
     """The rows by module and name."""
-    with open(os.path.join(command.ROOT, "tools", "lib", "calls.toml"), "rb") as file:
-        return tomllib.load(file)
+    return read()[1]
+
+
+def here():
+    """The calls of DOSCALLS that the machine has, in groups: what each is for, and its names."""
+    return [(group["what"], group["calls"]) for group in read()[0]]
 
 
 def name_of(module, ordinal):
@@ -32,10 +41,11 @@ def main():
     for module in given:
         if module not in table():
             words.error(f"there is no table of {module}")
+    built = {("DOSCALLS", name) for _, names in here() for name in names}
     print("module    ordinal  name                  words  source")
     for module in given or table():
         for name, row in sorted(table()[module].items(), key=lambda it: it[1]["ordinal"]):
-            print(f"{module:<9} {row['ordinal']:7}  {name:<20}  {row['words']:5}  {row['source']}")
+            print(f"{module:<9} {row['ordinal']:7}  {name:<20}  {row['words']:5}  {row['source']}" + ("  here" if (module, name) in built else ""))
     return 0
 
 

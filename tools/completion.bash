@@ -33,7 +33,7 @@ _os2run() {
         os2core) verbs="show svg segment difference" ;;
     esac
     if [ "$program" = os2trace ] && [ "$at" -gt 1 ] && [ "${word:0:1}" = - ]; then
-        COMPREPLY=($(compgen -W "--process --from --to --selector --help" -- "$word"))
+        COMPREPLY=($(compgen -W "--process --from --to --selector --writes --json --help" -- "$word"))
     elif [ "${word:0:1}" = - ]; then
         COMPREPLY=($(compgen -W "$flags" -- "$word"))
     elif [ -n "$verbs" ] && [ "$at" -eq 1 ]; then

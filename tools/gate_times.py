@@ -1,6 +1,6 @@
 #!/usr/bin/env python3
 """Runs the gate, or another command, and prints the minutes of the processor that each crate took: its proof, the proof of its tests and
-its edits that must fail. What the command prints goes on to the standard output, and behind it comes the table; the status is the
+its edits that must fail. What the command prints goes on to the standard output, and after it comes the table; the status is the
 command's. Times are read once a second from /proc, so a check that ends sooner isn't counted.
 """
 import argparse
@@ -20,7 +20,7 @@ TICKS = os.sysconf("SC_CLK_TCK")
 
 
 def children(root):
-    """The processes below one, with the fields of their /proc/PID/stat behind the name."""
+    """The processes below one, with the fields of their /proc/PID/stat after the name."""
     found, parents = {}, {}
     for name in os.listdir("/proc"):
         if name.isdigit():

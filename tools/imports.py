@@ -1,6 +1,6 @@
 #!/usr/bin/env python3
 """Lists what an executable imports, with the place that wants it first, and whether this machine has it, which `os2why imports` says. So it
-tells which call is behind a reason 10, 11 or 12. The status is 1 where one is missing.
+tells which call a reason 10, 11 or 12 is about. The status is 1 where one is missing.
 
 OS2WHY in the environment names another program to ask.
 """

@@ -2,7 +2,7 @@
 """Makes a segmented executable (NE) for OS/2 of object files in Intel's and Microsoft's object module format (OMF), as
 nasm -f obj writes them.
 
-Segments of one name and class that are public are put behind one another, and the segments of a group make one segment of the
+Segments of one name and class that are public follow one another, and the segments of a group make one segment of the
 executable. The group DGROUP is the automatic data segment; without one it is the only segment of data. Data outside of it is far
 data: segments of their own, which the program reaches by their selectors. A segment of the kind `stack` is no bytes of the file: its length is
 the stack's, unless --stack gives another. The classes that end in CODE are code.
@@ -186,7 +186,7 @@ class Object:
             into[name] = (self.item(self.pieces, segment, "segment"), offset)
 
     def data(self, piece, offset, content):
-        must(offset + len(content) <= piece.length, f"bytes behind the end of segment {piece.name}")
+        must(offset + len(content) <= piece.length, f"bytes past the end of segment {piece.name}")
         piece.bytes[offset : offset + len(content)] = content
         piece.filled = max(piece.filled, offset + len(content))
         self.last = (piece, offset, len(content))
@@ -289,7 +289,7 @@ class Linker:
         self.parts = []
 
     def lay(self):
-        """Puts the segments of the objects together: a list of names with the pieces that lie behind one another."""
+        """Puts the segments of the objects together: a list of names with the pieces that follow one another."""
         parts = {}
         for it in self.objects:
             for k, piece in enumerate(it.pieces[1:]):
@@ -366,7 +366,7 @@ class Linker:
             segment.filled = filled
         if auto:
             for piece in self.stacks:
-                # the stack lies behind the data, so that its names can be used
+                # the stack follows the data, so that its names can be used
                 piece.segment, piece.base = auto, module.segments[auto - 1].size
         for it in self.objects:
             for piece in it.pieces[1:]:
@@ -418,7 +418,7 @@ class Linker:
                 self.store(segment, place, 0xFFFF, 4)
                 module.relocate(place, "far", f"{where[0]}:{value:04X}", segment)
         else:
-            must(not held and not added, f"{it.path}: a place behind {what}, which is an import")
+            must(not held and not added, f"{it.path}: a place past {what}, which is an import")
             kind = {0: "byte", 1: "offset", 5: "offset", 2: "selector", 3: "far"}[location]
             self.store(segment, place, 0xFFFF if location else 0, width)
             module.relocate(place, kind, where, segment)

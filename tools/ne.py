@@ -1,34 +1,37 @@
 #!/usr/bin/env python3
-"""Makes a segmented executable (NE) for OS/2 from a listing.
+"""Makes a segmented executable (NE) for OS/2 from a listing, or from a source for nasm: a file whose name ends in .asm is assembled first.
 
 A listing is read line by line; what follows a `;` is a comment.
 
     module NAME [library] [single]
                                  the module's name; in a library with single data that data is one for all processes
-    stack BYTES, heap BYTES      of the automatic data segment; 0 where the line is missing
+    stack BYTES, heap BYTES      of the automatic data segment; 0 if the line is missing
     start SEGMENT:OFFSET         where the program begins
     segment N KIND [WORD ..]     a segment, from 1 in order: code, data; words: readonly, shared, auto, size=BYTES
-    export NAME SEGMENT:OFFSET [nonresident]
-                                 an entry, with the next ordinal from 1
+    export NAME SEGMENT:OFFSET [nonresident] [ordinal=N]
+                                 an entry, with the next ordinal from 1, or with a higher one
     OOOO  BB BB ..  TEXT [@OOOO KIND TARGET]
-                                 bytes at an offset of the segment, which must be the next one, and behind two
+                                 bytes at an offset of the segment, which must be the next one, and after two
                                  blanks what they mean; a relocation of the place OOOO:
-                                 far, selector, offset or byte, with `add-` before it where it is additive, to
+                                 far, selector, offset or byte, with `add-` before it if it is additive, to
                                  SEGMENT:OFFSET, SEGMENT, ENTRY (as in `entry.2`), MODULE.ORDINAL or MODULE.NAME
 
 A text that is an instruction, or a list of strings and numbers as `'hello', 10`, must be what its bytes are. Other text says what it likes.
 
-A listing of nasm (nasm -f bin -l LISTING) is read too. There the same lines stand in comments, `;@ module NAME` and so on, a segment's
-in front of its `section NAME vstart=0`; a relocation stands in a comment behind its line, `;@+N KIND TARGET`, where N counts from
-the first byte of the line.
+A source for nasm, and the listing that `nasm -f bin -l LISTING` makes of it, has the same lines in comments, `;@ module NAME` and so on,
+a segment's in front of its `section NAME vstart=0`. A relocation is a comment at the end of its line, `;@+N KIND TARGET`; N counts from the
+first byte of the line.
 
 The file is laid out by the format: an MZ stub of 64 bytes, the NE header, the segment table, the resident names, the module
 references, the imported names, the entry table, and each segment with its records, at multiples of 16 bytes.
 """
 import os
 import re
+import shutil
 import struct
+import subprocess
 import sys
+import tempfile
 
 sys.dont_write_bytecode = True
 sys.path.insert(0, os.path.join(os.path.dirname(os.path.realpath(__file__)), "lib"))
@@ -117,11 +120,12 @@ class Module:
         self.stack = self.heap = 0
         self.start, self.start_line = None, None
         self.segments, self.exports, self.modules = [], [], []
+        self.ordinals = {}
         self.imported = b"\0"
         self.at = None
 
     def segment(self):
-        must(self.segments, "bytes stand behind the line of their segment")
+        must(self.segments, "bytes come after a line of segment")
         return self.segments[-1]
 
     def string(self, text):
@@ -181,7 +185,7 @@ class Module:
             for line, source, at, (_, inside) in segment.relocations:
                 if at + WIDTHS[source] > len(segment.bytes):
                     raise Refused(f"the relocation's place {at:04X} lies outside the segment's bytes", line)
-                if inside and not 1 <= inside[1] <= len(self.segments if inside[0] == "segment" else self.exports):
+                if inside and inside[1] not in (range(1, len(self.segments) + 1) if inside[0] == "segment" else self.numbers()):
                     raise Refused(f"the relocation's {inside[0]} {inside[1]} isn't there", line)
             must(len(segment.relocations) <= 65535, "a segment has at most 65,535 relocations")
 
@@ -192,16 +196,29 @@ class Module:
         if not self.segments[segment - 1].is_code:
             raise Refused(f"the start is in segment {segment}, which is data", line)
         if offset >= self.segments[segment - 1].whole():
-            raise Refused(f"the start {offset:04X} lies behind the end of segment {segment}", line)
+            raise Refused(f"the start {offset:04X} lies past the end of segment {segment}", line)
+
+    def numbers(self):
+        """The ordinals of the exports: the one that a line gives, or else the next one."""
+        numbers, last = [], 0
+        for k in range(len(self.exports)):
+            last = self.ordinals.get(k, last + 1)
+            numbers.append(last)
+        return numbers
 
     def names(self, nonresident):
         """The exported names of one of the two tables, with their ordinals."""
-        exports = enumerate(self.exports, 1)
-        return b"".join(name(text) + struct.pack("<H", k) for k, (text, _, other, _) in exports if other == nonresident)
+        exports = zip(self.numbers(), self.exports)
+        return b"".join(name(text) + struct.pack("<H", word(k, "an ordinal")) for k, (text, _, other, _) in exports if other == nonresident)
 
     def entries(self):
-        """One bundle of a single entry for each export, and the end of the table."""
-        table = b"".join(struct.pack("<BBBH", 1, segment, 1, offset) for _, (segment, offset), _, _ in self.exports)
+        """One bundle of a single entry for each export, bundles of ordinals that aren't used in front of it, and the end of the table."""
+        table, last = b"", 0
+        for ordinal, (_, (segment, offset), _, _) in zip(self.numbers(), self.exports):
+            unused = ordinal - last - 1
+            table += b"\xff\0" * (unused // 255) + (struct.pack("<BB", unused % 255, 0) if unused % 255 else b"")
+            table += struct.pack("<BBBH", 1, segment, 1, offset)
+            last = ordinal
         return table + b"\0\0" if self.exports else b""
 
     def file(self):
@@ -270,13 +287,13 @@ class Listing(Module):
         words = line.split()
         if not words:
             return
-        counts = {"module": (2, 4), "stack": (2, 2), "heap": (2, 2), "start": (2, 2), "export": (3, 4), "segment": (3, 9)}
+        counts = {"module": (2, 4), "stack": (2, 2), "heap": (2, 2), "start": (2, 2), "export": (3, 5), "segment": (3, 9)}
         if words[0] in counts:
             least, most = counts[words[0]]
-            must(least <= len(words) <= most, f"a line of {words[0]} has {least - 1} to {most - 1} words behind it")
+            must(least <= len(words) <= most, f"a line of {words[0]} has {least - 1} to {most - 1} words after it")
         if words[0] == "module":
             must(self.name is None, "there is a line of module already")
-            must(words[2:] in ([], ["library"], ["library", "single"]), f"a module has the words library and single behind its name, and not {words[-1]}")
+            must(words[2:] in ([], ["library"], ["library", "single"]), f"a module has the words library and single after its name, and not {words[-1]}")
             self.name, self.library, self.single = words[1], "library" in words[2:], "single" in words[2:]
             name(self.name)
         elif words[0] in ("stack", "heap"):
@@ -284,8 +301,14 @@ class Listing(Module):
         elif words[0] == "start":
             self.start, self.start_line = place(words[1]), self.at
         elif words[0] == "export":
-            must(words[3:] in ([], ["nonresident"]), f"an export is nonresident or has no word behind its place, and not {words[-1]}")
+            after = [word for word in words[3:] if not word.startswith("ordinal=")]
+            must(after in ([], ["nonresident"]), f"an export has the words nonresident and ordinal=N after its place, and not {words[-1]}")
             name(words[1])
+            for text in words[3:]:
+                if text.startswith("ordinal="):
+                    ordinal = number(text[8:], 65535, "an ordinal")
+                    must(ordinal > max([0, *self.numbers()]), f"ordinals rise, and {ordinal} doesn't")
+                    self.ordinals[len(self.exports)] = ordinal
             self.exports.append((words[1], place(words[2]), "nonresident" in words[3:], self.at))
         elif words[0] == "segment":
             following = len(self.segments) + 1
@@ -363,6 +386,19 @@ def text_of(path):
     return content.decode("ascii")
 
 
+def assembled(path):
+    """The listing that nasm makes of a source."""
+    text_of(path)
+    must(shutil.which("nasm"), "a source wants nasm, which isn't installed")
+    with tempfile.TemporaryDirectory() as folder:
+        listing = os.path.join(folder, "made.lst")
+        run = subprocess.run(["nasm", "-f", "bin", "-l", listing, "-o", os.path.join(folder, "made.bin"), path], stdin=subprocess.DEVNULL, stderr=subprocess.PIPE, encoding="latin-1")
+        if run.returncode:
+            said = re.search(rf"(?m)^{re.escape(path)}:(\d+): (?:error: )?(.*)$", run.stderr)
+            raise Refused(f"nasm: {said[2] if said else run.stderr.strip()}", int(said[1]) if said else None)
+        return text_of(listing)
+
+
 def write(path, content):
     try:
         with open(path, "wb") as out:
@@ -373,13 +409,20 @@ def write(path, content):
 
 def main():
     words = command.parser("tools/ne.py", __doc__)
-    words.add_argument("listing", metavar="LISTING", help="what is read")
+    words.add_argument("listing", metavar="LISTING", help="what is read: a listing, or a source NAME.asm")
     words.add_argument("file", metavar="FILE", help="the executable that is written")
     given = words.parse_args()
+    is_source, text = given.listing.endswith(".asm"), None
     try:
-        content = Listing(text_of(given.listing)).file()
+        text = (assembled if is_source else text_of)(given.listing)
+        content = Listing(text).file()
     except Refused as why:
-        return f"{given.listing}:{why.line}: {why}" if why.line else f"{given.listing}: {why}"
+        line = why.line
+        if line and is_source and text:
+            # (a line of nasm's listing begins with that of the source)
+            found = re.match(r" *(\d+) ", text.split("\n")[line - 1])
+            line = int(found[1]) if found else None
+        return f"{given.listing}:{line}: {why}" if line else f"{given.listing}: {why}"
     write(given.file, content)
     return 0
 

@@ -8,7 +8,7 @@
   pages            whether each picture in docs/guide is what is drawn now
   pages write      writes them anew
 
-A page has a picture between a line <!-- picture: WORDS --> and the end of the block behind it.
+A page has a picture between a line <!-- picture: WORDS --> and the end of the block below it.
 """
 import glob
 import html
@@ -113,7 +113,7 @@ def moments_of(layout):
     else), its selector and its size."""
     moments = []
     for line in lines_of(layout):
-        moment = re.search(r"(behind step \d+) in (\d+) bytes$", line)
+        moment = re.search(r"(after step \d+) in (\d+) bytes$", line)
         segment = re.match(r"([0-9A-F]{4}) (\d+) (?:at (\d+)|(.*))$", line)
         if moment:
             moments.append((moment[1], int(moment[2]), []))
@@ -246,14 +246,14 @@ def pages(is_written):
 def main():
     parser = command.parser("tools/picture.py", __doc__)
     parser.add_argument("kind", metavar="KIND", choices=[*DRAWN, "pages"], help=", ".join([*DRAWN, "pages"]))
-    parser.add_argument("file", metavar="FILE", nargs="?", help="what is drawn, or `write` behind `pages`")
+    parser.add_argument("file", metavar="FILE", nargs="?", help="what is drawn, or `write` after `pages`")
     parser.add_argument("--svg", action="store_true", help="lanes or memory as SVG, on the standard output")
     given = parser.parse_args()
     if given.svg and given.kind not in AS_SVG:
         parser.error(f"{given.kind} isn't drawn as SVG")
     if given.kind == "pages":
         if given.file not in (None, "write"):
-            parser.error("behind `pages` comes `write` or nothing")
+            parser.error("after `pages` comes `write` or nothing")
         return pages(given.file == "write")
     if not given.file:
         parser.error(f"{given.kind} wants a file")

@@ -12,7 +12,7 @@ An edit ends as one of these:
   accepted      its functions are still proved
   not tried     it doesn't apply, the front end refuses it, or the prover gave no verdict
 
-The table behind them counts by crate. The status is 1 where an edit was accepted or not tried.
+The table after them counts by crate. The status is 1 where an edit was accepted or not tried.
 """
 import glob
 import importlib.machinery

@@ -1,7 +1,7 @@
 #!/usr/bin/env python3
 """Reads a report and prints who can reach what, by its lines alone: for each process and selector that it holds how often it holds it,
 and since which line, by what. A process reaches a segment by a selector as long as the lines of its holds outnumber those of its
-drops, and by none behind the line of its end.
+drops, and by none after the line of its end.
 """
 import os
 import re
@@ -58,7 +58,7 @@ def told(rows, is_all):
 def main():
     words = command.parser("tools/reach.py", __doc__)
     words.add_argument("report", metavar="REPORT", help="a report of os2run")
-    words.add_argument("--at", type=command.number(0, 10**9), metavar="LINE", help="as it was behind that line, in place of the last one")
+    words.add_argument("--at", type=command.number(0, 10**9), metavar="LINE", help="as it was after that line, in place of the last one")
     words.add_argument("--all", action="store_true", help="what was held and isn't any more, too: until which line, and by what it went")
     given = words.parse_args()
     try:

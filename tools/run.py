@@ -19,6 +19,7 @@ import tempfile
 sys.dont_write_bytecode = True
 sys.path.insert(0, os.path.join(os.path.dirname(os.path.realpath(__file__)), "lib"))
 import command
+import watched
 
 # The machine that `os2run exe` makes for a program, as docs/machine.md has it.
 MEMORY, SWAP, SEGMENTS, BUDGET, QUANTUM, AVAIL = 1_048_576, 2048, 1024, 1_000_000, 1000, 524_288
@@ -93,7 +94,7 @@ def refused(report, words):
 def main():
     parser = command.parser("tools/run.py", __doc__)
     parser.add_argument("file", metavar="FILE", help="an executable, or a machine file NAME.toml")
-    parser.add_argument("arguments", metavar="ARGUMENT", nargs="*", help="the program's command line; behind -- also words that begin with a dash")
+    parser.add_argument("arguments", metavar="ARGUMENT", nargs="*", help="the program's command line; after -- also words that begin with a dash")
     parser.add_argument("--budget", type=command.number(0, 4_000_000_000), metavar="N", help=f"how many steps are taken at most, {BUDGET} where it isn't given")
     parser.add_argument("--memory", type=command.number(4096, 16_777_216), metavar="N", help=f"bytes of memory, {MEMORY} where it isn't given")
     given = parser.parse_args()
@@ -120,8 +121,7 @@ def main():
             out.write(changed(given) if is_machine else machine_file(given))
         words = ["run", made]
     try:
-        with open(given.file + ".report", "wb") as report:
-            status = subprocess.run([program, *words], stderr=report).returncode
+        status = watched.run("tools/run.py", [program, *words], given.file + ".report")
     finally:
         if made:
             os.unlink(made)

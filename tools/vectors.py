@@ -4,7 +4,8 @@
   opcodes                    a line for each opcode: its word for os2vectors, and the flags that are undefined after it
   metadata                   the same as JSON: by opcode the pattern `flags` and the mask `flags-mask`, as the processor tests that
                              emulators share have them
-  suite FOLDER [OPCODE ..]   a file OPCODE.json for each opcode, or for those that are named, and metadata.json beside them
+  suite FOLDER [OPCODE ..]   a file OPCODE.json for each opcode, or for those that are named, and metadata.json beside them;
+                             with --traps N at most N of 100 vectors of an opcode end by an exception, which half of them do otherwise
 
 A flag is named by its letter in `odiszapc`: overflow, direction, interrupt, sign, zero, auxiliary carry, parity and carry. A mask has a 1 for
 each flag that is defined: what an emulator leaves in the flags is compared under it.
@@ -40,6 +41,8 @@ UNDEFINED = (
     ("o", "C0.0-C0.3 C1.0-C1.3 D2.0-D2.3 D3.0-D3.3"),  # ROL, ROR, RCL, RCR
 )
 LETTERS = "odiszapc"
+# How many vectors os2vectors makes at most.
+MOST = 1_000_000
 BITS = {"o": 0x800, "d": 0x400, "i": 0x200, "s": 0x080, "z": 0x040, "a": 0x010, "p": 0x004, "c": 0x001}
 
 
@@ -88,14 +91,29 @@ def metadata(opcodes):
 
 
 def made(program, opcode, count, seed):
-    """The vectors of an opcode, as os2vectors writes them."""
+    """The vectors of an opcode, as os2vectors writes them: a line each, between one of `[` and one of `]`."""
     run = subprocess.run([program, opcode, str(count), str(seed)], stdin=subprocess.DEVNULL, capture_output=True)
     if run.returncode:
         sys.exit(f"tools/vectors.py: os2vectors {opcode}: status {run.returncode}: {run.stderr.decode(errors='replace').strip()}")
-    return run.stdout
+    return [line.rstrip(b",") for line in run.stdout.splitlines()[1:-1]]
 
 
-def suite(folder, opcodes, count, seed):
+def chosen(program, opcode, count, seed, traps):
+    """So many vectors of an opcode. With `traps` at most so many of a hundred end by an exception: the first of them that os2vectors makes, among
+    eight times as many. An opcode that hardly ever does anything else has more."""
+    if traps is None:
+        return made(program, opcode, count, seed)
+    rows = made(program, opcode, min(8 * count, MOST), seed)
+    is_trap = [b'"trap"' in row[: row.index(b"}")] for row in rows]
+    left, kept = max(count * traps // 100, count - is_trap.count(False)), []
+    for row, trap in zip(rows, is_trap):
+        if len(kept) < count and (left or not trap):
+            left -= trap
+            kept.append(row)
+    return kept
+
+
+def suite(folder, opcodes, count, seed, traps):
     """Writes the vectors of some opcodes, and their metadata, into a new or empty folder."""
     program = command.program("os2vectors")
     if not program:
@@ -106,9 +124,9 @@ def suite(folder, opcodes, count, seed):
             return f"tools/vectors.py: {folder} isn't empty"
         for opcode in opcodes:
             with open(os.path.join(folder, opcode + ".json"), "wb") as out:
-                out.write(made(program, opcode, count, seed))
+                out.write(b"\n".join([b"[", *filter(None, [b",\n".join(chosen(program, opcode, count, seed, traps))]), b"]", b""]))
         with open(os.path.join(folder, "metadata.json"), "w", encoding="ascii") as out:
-            json.dump({**metadata(opcodes), "count": count, "seed": seed}, out, indent=1)
+            json.dump({**metadata(opcodes), "count": count, "seed": seed, **({} if traps is None else {"traps": traps})}, out, indent=1)
             out.write("\n")
     except OSError as error:
         return f"tools/vectors.py: {folder}: {error.strerror}"
@@ -131,11 +149,12 @@ def main():
     words = kinds.add_parser("suite", help="the vectors of all opcodes")
     words.add_argument("folder", metavar="FOLDER", help="a new or empty folder")
     words.add_argument("opcodes", metavar="OPCODE", nargs="*", type=opcode, help="as `opcodes` lists them; all where none is named")
-    words.add_argument("--count", metavar="N", type=command.number(0, 1_000_000), default=1000, help="how many vectors each opcode has; 1000 where it isn't given")
-    words.add_argument("--seed", metavar="N", type=command.number(0, 10**18 - 1), default=1, help="a number; the same one gives the same vectors; 1 where it isn't given")
+    words.add_argument("--count", metavar="N", type=command.number(0, MOST), default=1000, help="how many vectors each opcode has; 1000 if it isn't given")
+    words.add_argument("--seed", metavar="N", type=command.number(0, 10**18 - 1), default=1, help="a number; the same one gives the same vectors; 1 if it isn't given")
+    words.add_argument("--traps", metavar="N", type=command.number(0, 100), help="at most so many of 100 end by an exception, if the opcode can do otherwise; as they come if it isn't given")
     given = parser.parse_args()
     if given.kind == "suite":
-        return suite(given.folder, list(dict.fromkeys(given.opcodes)) or list(FLAGS), given.count, given.seed)
+        return suite(given.folder, list(dict.fromkeys(given.opcodes)) or list(FLAGS), given.count, given.seed, given.traps)
     if given.kind == "metadata":
         print(json.dumps(metadata(FLAGS), indent=1))
     else:

@@ -3,6 +3,7 @@
 
   why      what os2why says of the refusals that tools/checks/refusals.py tries, once for each text, and of what opens
   trace    os2trace over the examples, against NAME.report, and NAME.trace where it stands beside it
+  writes   what os2trace tells of the bytes that steps changed, against core images, and its JSON lines against its other lines
   alone    os2trace over processes among others and alone: the steps of each are the same, in ample memory and in the least
   replay   libx86emu takes the steps of the examples' traces, over executables that are loaded here (where it and a C compiler are installed)
   list     nasm reads the listing of os2list back, over instructions of every opcode (where nasm is installed)
@@ -29,6 +30,7 @@ from try_replay import check_replay
 from try_trace import check_trace
 from try_vectors import check_vectors
 from try_why import check_why
+from try_writes import check_writes
 
 # Statuses and streams.
 
@@ -137,7 +139,8 @@ def short_of_memory():
 # The pages' examples.
 
 def examples_of(page):
-    """The commands between .nf and .fi, with what stands behind each."""
+    """The commands between .nf and .fi, with what stands behind each. One whose first line ends with a pipe goes on in the lines that begin
+    with `> `."""
     with open(page) as file:
         inside, found = False, []
         for line in file.read().splitlines():
@@ -147,6 +150,8 @@ def examples_of(page):
                 line = line.replace("\\-", "-").replace("\\(rs", "\\")
                 if line.startswith("$ "):
                     found.append((line[2:], []))
+                elif line.startswith("> ") and not found[-1][1] and found[-1][0].split("\n")[0].endswith("|"):
+                    found[-1] = (found[-1][0] + "\n" + line[2:], [])
                 else:
                     found[-1][1].append(line)
     return found
@@ -167,7 +172,7 @@ def check_pages():
                 wrong(f"{name}.1, {command}: {run.stdout!r}, {run.stderr!r}")
 
 
-PARTS = {"why": check_why, "trace": check_trace, "alone": check_alone, "replay": check_replay, "list": check_list, "core": check_core, "vectors": check_vectors, "ends": check_ends, "pages": check_pages}
+PARTS = {"why": check_why, "trace": check_trace, "writes": check_writes, "alone": check_alone, "replay": check_replay, "list": check_list, "core": check_core, "vectors": check_vectors, "ends": check_ends, "pages": check_pages}
 
 if __name__ == "__main__":
     trying.frame("programs", __doc__, PARTS)

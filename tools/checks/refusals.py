@@ -192,6 +192,8 @@ def machine_files():
     for word in ("1", "1-5", "1:", ":5", "01:5", " 1:5", "1:5 ", "1:1_000", "a:1"):
         refuses(f"script word {word!r}", 3, "script", f'script = ["{word}"]\n' + good)
     refuses("script as one text", 3, "script", 'script = "1:5"\n' + good)
+    refuses("shim as a number", 3, "shim", "shim = 1\n" + good)
+    refuses("a zero byte in the name of the shim", 3, "shim", 'shim = "A\\u0000"\n' + good)
     # limits
     limits = {"memory": (4080, 16777232, 1048577), "swap": (65537,), "segments": (0, 65536), "budget": (4000000001,), "quantum": (0, 1000001)}
     for key, values in limits.items():
@@ -199,6 +201,8 @@ def machine_files():
         for value in values:
             refuses(f"{key} = {value}", 4, key, good.replace(line, f"{key} = {value}"))
     refuses("avail = 4294967296", 4, "avail", "avail = 4294967296\n" + good)
+    refuses("an empty name of the shim", 4, "shim", 'shim = ""\n' + good)
+    refuses("a name of the shim of 256 bytes", 4, "shim", f'shim = "{"x" * 256}"\n' + good)
     refuses("no modules", 4, "modules", good.replace('["hello.exe"]', "[]"))
     refuses("65 modules", 4, "modules", good.replace('["hello.exe"]', str(["hello.exe"] * 65)))
     refuses("an empty module name", 4, "modules", good.replace("hello.exe", ""))
@@ -264,7 +268,7 @@ def modules():
     module("a relocation to segment 3 of 2", row(HELLO, records, 0x0003, 0x000C, 3, 0), 9)
     module("a relocation to an entry that isn't there", row(HELLO, records, 0x0003, 0x000C, 0xFF, 1), 9)
     module("a reference to another module", HELLO.replace(b"DOSCALLS", b"VIOCALLS"), 10)
-    for ordinal in (146, 70, 999):
+    for ordinal in (144, 70, 999):
         module(f"DOSCALLS.{ordinal}", row(HELLO, records + 6, ordinal), 11)
     by_name = listing("module A\nstart 1:0000\nsegment 1 code\n0000  9A FF FF 00 00  call @0001 far DOSCALLS.DosOpen\n")
     module("DOSCALLS.DosOpen", by_name, 12)
@@ -309,6 +313,14 @@ def libraries():
     linked("a library that isn't listed", "LIB.1", listing(library), '"p.exe"', 4, "os2run: module p.exe: reason 10")
     linked("a program where a library is wanted", "LIB.1", listing(library.replace(" library", "\nstart 1:0000")), both, 4, "os2run: module p.exe: reason 10")
     wants("a library that isn't listed, by exe", ["exe", "p.exe"], 4, "os2run: module p.exe: reason 10")
+    # a library that answers for DOSCALLS
+    keyed = '"p.exe", "lib.dll"]\nshim = "{}" # '
+    linked("an entry of the shim", "DOSCALLS.1", listing(library), keyed.format("lib"), 0, "")
+    linked("a name of the shim", "DOSCALLS.E", listing(library), keyed.format("LIB"), 0, "")
+    linked("an ordinal that the shim hasn't", "DOSCALLS.2", listing(library), keyed.format("LIB"), 4, "os2run: module p.exe: reason 11")
+    linked("a name that the shim hasn't", "DOSCALLS.F", listing(library), keyed.format("LIB"), 4, "os2run: module p.exe: reason 12")
+    linked("a shim that isn't listed", "DOSCALLS.1", listing(library), keyed.format("NOLIB"), 4, "os2run: module NOLIB: reason 18")
+    linked("a shim that is a program", "DOSCALLS.1", listing(library), keyed.format("P"), 4, "os2run: module P: reason 18")
     # 16 libraries of 254 segments find selectors, and one more doesn't
     for k in range(17):
         with open(f"{k}.dll", "wb") as out:

@@ -2,6 +2,7 @@
 """Tries the tools around the programs: their words and their ends; which listings make no executable and why, what is linked of object
 files, how tools/run.py ends, and what the package has. OS2RUN and the like in the environment name other programs to try.
 """
+import glob
 import os
 import random
 import re
@@ -39,10 +40,10 @@ LISTINGS = (
     (FRONT + CODE + "segment 2 data auto\nsegment 3 data auto\n", "a.lst:6: there are two automatic data segments"),
     ("module A\nstart 2:0000\n" + CODE + "segment 2 data\n", "a.lst:2: the start is in segment 2, which is data"),
     ("module A\nstart 3:0000\n" + CODE, "a.lst:2: the start is in segment 3, and there are 1"),
-    ("module A\nstart 1:0001\n" + CODE, "a.lst:2: the start 0001 lies behind the end of segment 1"),
+    ("module A\nstart 1:0001\n" + CODE, "a.lst:2: the start 0001 lies past the end of segment 1"),
     ("module A\nstart 1\n" + CODE, "a.lst:2: 1 is no SEGMENT:OFFSET, as 1:0000: start 1"),
-    ("module\n", "a.lst:1: a line of module has 1 to 3 words behind it: module"),
-    ("module A driver\n", "a.lst:1: a module has the words library and single behind its name, and not driver"),
+    ("module\n", "a.lst:1: a line of module has 1 to 3 words after it: module"),
+    ("module A driver\n", "a.lst:1: a module has the words library and single after its name, and not driver"),
     ("module A library single\nsegment 1 code\n0000  CB\n", "a.lst: single data is an automatic data segment, and there is none"),
     ("module A\nmodule B\n", "a.lst:2: there is a line of module already"),
     ("module " + "A" * 256, "a.lst:1: a name has 1 to 255 letters"),
@@ -51,7 +52,7 @@ LISTINGS = (
     (FRONT + "segment 1 stack\n", "a.lst:3: a segment is code or data, and not stack"),
     (FRONT + "segment 1 code auto\n", "a.lst:3: the automatic data segment is data that may be written"),
     (FRONT + "segment 1 data big\n", "a.lst:3: a segment has the words readonly, shared, auto and size=BYTES, and not big"),
-    (FRONT + "0000  90  nop\n", "a.lst:3: bytes stand behind the line of their segment"),
+    (FRONT + "0000  90  nop\n", "a.lst:3: bytes come after a line of segment"),
     (FRONT + CODE + "0002  90  nop\n", "a.lst:5: the offset 0001 comes next: 0002  90  nop"),
     (FRONT + CODE + "0001 90\n", "a.lst:5: no line of a listing"),
     (FRONT + CODE + "0001  90 nop\n", "a.lst:5: no line of a listing"),
@@ -61,6 +62,10 @@ LISTINGS = (
     (FRONT + CODE + "0001  9A FF FF 00 00  call  @0002 far entry.1\n", "a.lst:5: the relocation's entry 1 isn't there"),
     (FRONT + CODE + "0001  9A FF FF 00 00  call  @0002 far DOSCALLS.\n", "a.lst:5: DOSCALLS. is no MODULE.NAME"),
     (FRONT + CODE + "export E 2:0000\n", "a.lst:5: E is in segment 2, and there are 1"),
+    (FRONT + CODE + "export E 1:0000 public\n", "a.lst:5: an export has the words nonresident and ordinal=N after its place, and not public"),
+    (FRONT + CODE + "export E 1:0000 ordinal=65536\n", "a.lst:5: an ordinal is a decimal number up to 65535, and not 65536"),
+    (FRONT + CODE + "export E 1:0000 ordinal=2\nexport F 1:0000 ordinal=2\n", "a.lst:6: ordinals rise, and 2 doesn't"),
+    (FRONT + CODE + "export E 1:0000 ordinal=65535\nexport F 1:0000\n", "a.lst: an ordinal doesn't fit the format: 65536 is above 65535"),
     (FRONT + "stack 65535\n" + CODE + "segment 2 data auto size=2\n", "a.lst:6: the automatic data segment, stack and heap have 65537 bytes together"),
     (FRONT + "segment 1 data size=65537\n", "a.lst:3: a size is a decimal number up to 65536"),
     (FRONT + "segment 1 code\n" + "".join("%04X  %s\n" % (k, "00 " * 4095 + "00") for k in range(0, 65536, 4096)) * 2, "a.lst:20: "),
@@ -77,7 +82,7 @@ LISTINGS = (
     (FRONT + CODE + "segment 2 data\n0000  68 69  'hi', 10\n", "a.lst:6: the bytes are 68 69, and the text says 68 69 0A: 'hi', 10"),
     (FRONT + CODE + "segment 2 data\n0000  34 12  dw 1235h\n", "a.lst:6: the bytes are 34 12, and the text says 35 12: dw 1235h"),
     (FRONT + "; é\n", "a.lst:3: a listing is text of ASCII characters"),
-    ("     1                                  ;@ module A\n     2 00000000 90                      nop\n", "a.lst:2: bytes stand behind"),
+    ("     1                                  ;@ module A\n     2 00000000 90                      nop\n", "a.lst:2: bytes come after"),
     ("     1                                  ;@ segment 1 code\n     2 00000004 90                      nop\n", "a.lst:2: the offset 0000 comes next (has each section"),
     ("     1                                  ;@ segment 1 code\n     2 00000000 <bin 4h>                x\n", "a.lst:2: these bytes can't be read from a listing"),
     ("     1                                  ;@ segment 1 code\n     2                                  nop ;@+1 far\n", "a.lst:2: a relocation is written ;@+N KIND TARGET"),
@@ -249,7 +254,25 @@ def nasm():
     """With nasm on the machine: what it makes of the sources is what stands here."""
     if not shutil.which("nasm"):
         print("tools: nasm isn't installed, so its listings and objects are tried as they stand")
+        says("ne.py", [os.path.join(FIVE, "first.asm"), "a.exe"], "first.asm: a source wants nasm, which isn't installed")
         return
+    says("ne.py", [os.path.join(FIVE, "first.asm"), "first.exe"], "", 0)
+    shutil.copy(os.path.join(EXAMPLES, "echo.lst"), "echo.lst")
+    says("make/sources.py", ["echo.lst"], "", 0)
+    says("ne.py", ["echo.asm", "echo.exe"], "", 0)
+    with open("echo.asm") as source, open("echo.exe", "rb") as one, open(os.path.join(EXAMPLES, "echo.exe"), "rb") as other:
+        wants("make/sources.py names the jumps", "jnz L0046" in source.read() and one.read() == other.read())
+    with open("first.exe", "rb") as one, open(os.path.join(FIVE, "first.exe"), "rb") as other:
+        wants("ne.py assembles a source", one.read() == other.read())
+    with open(os.path.join(FIVE, "first.asm")) as file:
+        text = file.read()
+    for source, line in ((text + "pusk 1\n", f"a.asm:{text.count(chr(10)) + 1}: nasm: "), (text + "\n;@ segment 9 data\n", f"a.asm:{text.count(chr(10)) + 2}: segments come in order"),
+                         (text + "%include 'none.inc'\n", "a.asm:"), (text + "; \u00e9\n", "a listing is text of ASCII characters")):
+        with open("a.asm", "w", encoding="utf-8") as file:
+            file.write(source)
+        says("ne.py", ["a.asm", "a.exe"], line)
+    says("ne.py", ["none.asm", "a.exe"], "none.asm: No such file or directory")
+    wants("ne.py leaves nothing of nasm's", sorted(name for name in os.listdir() if name.startswith("a.")) == ["a.asm"], os.listdir())
     for name in ("main", "greet", "medium", "fargreet"):
         subprocess.run(["nasm", "-f", "obj", "-o", f"{name}.obj", os.path.join(FIVE, f"{name}.asm")], check=True)
     says("link.py", ["-o", "small.exe", "main.obj", "greet.obj"], "", 0)
@@ -341,13 +364,22 @@ def imports():
 
 
 def calls():
-    """The table of calls: DOSCALLS' rows are those of the machine, and no two of a module have one ordinal."""
+    """The table of calls: DOSCALLS' rows are those of the machine, of which it has those that the pages list. No two of a module have one
+    ordinal."""
     import calls as tool
 
     with open(os.path.join(ROOT, "crates", "o2_base", "src", "services.rt")) as file:
         rows = {name: (int(ordinal), int(count)) for name, ordinal, count in re.findall(r'row_of\(b"(\w+)", (\d+), (\d+)\)', file.read())}
     own = {name: (row["ordinal"], row["words"]) for name, row in tool.table()["DOSCALLS"].items() if row["source"] == "machine"}
     wants("the machine's calls", rows and rows == own, {name for name in {**rows, **own} if rows.get(name) != own.get(name)})
+    built = {name for _, names in tool.here() for name in names}
+    places = "".join(f"{5 * k:04X}  9A FF FF 00 00  @{5 * k + 1:04X} far DOSCALLS.{name}\n" for k, name in enumerate(own))
+    with open("all.exe", "wb") as file:
+        file.write(ne.Listing(f"module ALL\nstart 1:0000\nsegment 1 code\n{places}").file())
+    _, told = trying.said("os2why", "imports", "all.exe")
+    found = {how: set(re.findall(rf"(?m)^ *1 DOSCALLS\.(\w+) is {how}$", told)) for how in ("built", "missing")}
+    wants("the machine has the calls that the table lists, and no other", found == {"built": built, "missing": set(own) - built}, (told, built))
+    says("make/lists.py", [], "", 0)
     for module, found in tool.table().items():
         wants(f"each ordinal of {module} once", len({row["ordinal"] for row in found.values()}) == len(found))
     run = subprocess.run([os.path.join(TOOLS, "calls.py"), "kbdcalls"], capture_output=True, text=True)
@@ -390,7 +422,7 @@ def reach():
 
 
 LAYOUT = """of a.toml
-behind step 7 in 1024 bytes
+after step 7 in 1024 bytes
 000F 20 at 64
 0017 600 in blocks
 001F 16 not loaded
@@ -401,7 +433,7 @@ LAYOUTS = (
     (LAYOUT.replace("at 64", "at 80"), "a.layout isn't what the images show: tools/make/layouts.py write"),
     (LAYOUT.replace("0017 600 in blocks\n", ""), "a.layout isn't what the images show: tools/make/layouts.py write"),
     (LAYOUT.replace("step 7", "step 8"), "a.layout: a.toml takes 7 steps in 1 processes, and not 8 in one"),
-    (LAYOUT.replace("of a.toml\n", ""), "a.layout: it doesn't say of which machine file it is, or behind which steps"),
+    (LAYOUT.replace("of a.toml\n", ""), "a.layout: it doesn't say of which machine file it is, or after which steps"),
     (LAYOUT.replace("a.toml", "b.toml"), "b.toml"),
 )
 
@@ -457,7 +489,7 @@ def picture():
     says("picture.py", ["lanes", "none.report"], "none.report: No such file or directory")
     says("picture.py", ["patches", os.path.join(EXAMPLES, "hello")], "picture.py:")
     says("picture.py", ["lanes"], "lanes wants a file", 2)
-    says("picture.py", ["pages", "read"], "behind `pages` comes", 2)
+    says("picture.py", ["pages", "read"], "after `pages` comes", 2)
     says("picture.py", ["circle", "a"], "invalid choice: 'circle'", 2)
 
 
@@ -494,7 +526,7 @@ def manners():
             wants(f"{tool} {word}", run.returncode == 0 and run.stdout.startswith("usage: ") and not run.stderr, run)
         run = subprocess.run([path, "--no-such-word"], cwd="manners", capture_output=True, text=True, stdin=subprocess.DEVNULL)
         well = run.returncode == 2 and not run.stdout and run.stderr.startswith("usage: ") and "Traceback" not in run.stderr
-        # (what stands behind the words of gate_times.py is a command)
+        # (what follows the words of gate_times.py is a command)
         wants(f"{tool} --no-such-word", well or tool == "gate_times.py", run)
         reader, writer = os.pipe()
         os.close(reader)
@@ -538,12 +570,14 @@ def package():
         named = set(re.findall(r"(?<![\w/.])(?:\./)?((?:os2\w+|tools/[\w./]+\w|man/[\w./]+\w|docs/machine\.md|docs/guide|LICENSE-\w+|SHA256SUMS))(?![\w-])", file.read()))
     missing = sorted(name for name in named if not os.path.exists(os.path.join(top, name)))
     wants("what the package's README names is in it", len(named) > 12 and not missing, missing)
-    pages = [os.path.join(folder, name) for folder, _, names in os.walk(os.path.join(top, "docs")) for name in names if name.endswith(".md")]
+    pages = [os.path.join(folder, name) for room in ("docs", "man") for folder, _, names in os.walk(os.path.join(top, room)) for name in names if re.search(r"\.(md|\d)$", name)]
+    wants("the package has pages", len(pages) > 18, pages)
     for page in pages:
         with open(page) as file:
             text = file.read()
-        missing = sorted({name for name in re.findall(r"(?<![\w/])(?:\.\./)*(tools/(?!checks)[\w/]+\.\w+)", text) if not os.path.exists(os.path.join(top, name))})
-        wants(f"the tools that {os.path.relpath(page, top)} names are in the package", not missing, missing)
+        named = set(re.findall(r"(?<![\w/])(?:\.\./)*((?:tools|docs|examples|bench|crates)/[\w./-]*\w)", text))
+        missing = sorted(name for name in named if "/made/" not in name and not glob.glob(os.path.join(top, name) + "*"))
+        wants(f"what {os.path.relpath(page, top)} names is in the package", not missing, missing)
     again = open(os.path.join(ROOT, "build", "os2run-linux-x86_64.tar.gz"), "rb").read()
     says("make/package.py", [], "", 0)
     wants("the same package once more", again == open(os.path.join(ROOT, "build", "os2run-linux-x86_64.tar.gz"), "rb").read())

@@ -4,6 +4,7 @@ import re
 import struct
 import subprocess
 
+import heaps
 import trying
 from trying import EXAMPLES, program, wrong
 from try_vectors import NAMES, built, unlike
@@ -14,10 +15,10 @@ STRINGS = (0xA4, 0xA5, 0xA6, 0xA7, 0xAA, 0xAB, 0xAC, 0xAD, 0xAE, 0xAF)
 # The calls that are built, with their ordinals and the numbers of their gates.
 GATES = {"DosExit": 1, "DosGetPID": 2, "DosRead": 3, "DosWrite": 4, "DosAllocSeg": 5, "DosReallocSeg": 6, "DosFreeSeg": 7, "DosSizeSeg": 8,
          "DosLockSeg": 9, "DosUnlockSeg": 10, "DosCreateCSAlias": 11, "DosAllocShrSeg": 12, "DosGetShrSeg": 13, "DosGiveSeg": 14, "DosGetSeg": 15,
-         "DosAllocHuge": 16, "DosReallocHuge": 17, "DosGetHugeShift": 18, "DosMemAvail": 19}
+         "DosAllocHuge": 16, "DosReallocHuge": 17, "DosGetHugeShift": 18, "DosMemAvail": 19, "DosSubSet": 20, "DosSubAlloc": 21, "DosSubFree": 22}
 ORDINALS = {5: "DosExit", 94: "DosGetPID", 137: "DosRead", 138: "DosWrite", 34: "DosAllocSeg", 38: "DosReallocSeg", 39: "DosFreeSeg", 126: "DosSizeSeg",
             122: "DosLockSeg", 123: "DosUnlockSeg", 43: "DosCreateCSAlias", 35: "DosAllocShrSeg", 36: "DosGetShrSeg", 37: "DosGiveSeg", 121: "DosGetSeg",
-            40: "DosAllocHuge", 42: "DosReallocHuge", 41: "DosGetHugeShift", 127: "DosMemAvail"}
+            40: "DosAllocHuge", 42: "DosReallocHuge", 41: "DosGetHugeShift", 127: "DosMemAvail", 146: "DosSubSet", 147: "DosSubAlloc", 148: "DosSubFree"}
 GROUPS = (0x80, 0x81, 0x83, 0xC0, 0xC1, 0xD0, 0xD1, 0xD2, 0xD3, 0xF6, 0xF7)
 ARITHMETIC = 0x0CD5
 
@@ -133,6 +134,8 @@ def served(segments, call, source):
     pointers = [tuple(int(part, 16) for part in word.split(":")) for word in words.split(" ") if ":" in word]
     first, *others = (int(word, 16) for word in words.split(" ") if ":" not in word)
     numbers = [int(value, 16) for value in values.split()]
+    if name.startswith("DosSub") and not heaps.called(segments[first | 7], name, others, numbers):
+        wrong(f"{call!r}: the segment's bytes say something else")
     if pointers:
         selector, at = pointers[-1]
         form = "<I" if name in ("DosMemAvail", "DosSizeSeg") else f"<{len(numbers)}H"

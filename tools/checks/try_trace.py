@@ -17,7 +17,7 @@ def shown(bytes_):
 def check_trace():
     """Each example's trace has the lines of its report and the bytes of its console, in their order, without the line of a status behind
     them; where NAME.trace stands beside it, it is that."""
-    options = ("--process <NUMBER>", "--from <STEP>", "--to <STEP>", "--selector <HEX>")
+    options = ("--process <NUMBER>", "--from <STEP>", "--to <STEP>", "--selector <HEX>", "--writes", "--json")
     check_words("os2trace", ["exe"], {"exe": options, "run": options})
     for folder, _, files in sorted(os.walk(EXAMPLES)):
         for file in sorted(files):

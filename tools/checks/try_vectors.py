@@ -166,6 +166,18 @@ def check_suite():
             trying.count()
             if file.read() != said("os2vectors", opcode, "3", "5")[1]:
                 wrong(f"tools/vectors.py suite: {opcode}.json isn't what os2vectors writes")
+    for traps, most in (("0", 0), ("25", 10), ("100", 40)):
+        trying.count()
+        run = subprocess.run([*tool, "suite", f"few{traps}", "F7.4", "F4", "--count", "40", "--traps", traps], capture_output=True, text=True)
+        told = {}
+        for opcode in ("F7.4", "F4"):
+            with open(f"few{traps}/{opcode}.json") as file:
+                told[opcode] = json.load(file)
+        many = json.loads(trying.said("os2vectors", "F7.4", "320", "1")[1])
+        places = [many.index(row) for row in told["F7.4"]]
+        trapped = sum("trap" in row["answer"] for row in told["F7.4"])
+        if run.returncode or places != sorted(set(places)) or len(places) != 40 or trapped > most or traps != "0" and not trapped or len(told["F4"]) != 40 or traps == "100" and places != list(range(40)):
+            wrong(f"tools/vectors.py suite --traps {traps}: {trapped} of {len(places)} end by an exception; {run}")
     for words, status in ((["suite", "suite"], 1), (["suite", "other", "F1"], 2), (["all"], 2), ([], 2)):
         trying.count()
         run = subprocess.run([*tool, *words], capture_output=True, text=True)

@@ -13,7 +13,7 @@ REASONS = {
     1: "it doesn't begin with MZ", 2: "there is no NE where the four bytes at 3Ch say", 3: "it ends early: byte", 4: "it is for another system",
     5: "its linker marked it", 9: "segment 1: its relocation 0, from 0,", 10: "it refers to the module LIB, which is neither",
     11: "it imports LIB.2, and LIB has no entry of that ordinal", 12: "it imports LIB.", 13: "another module has its name",
-    14: "no selectors are left for the segments of the library L16", 15: "it has no stack", 16: "it has no entry point", 17: "its processes want more segments than the key `segments` allows",
+    14: "no selectors are left for the segments of the library L16", 15: "it has no stack", 16: "it has no entry point", 18: "no library among the files that are named has the name ", 17: "its processes want more segments than the key `segments` allows",
 }
 TITLES = {
     "MZ and the 64 bytes end early": "byte 63 (3Fh)", "the place at 3Ch lies behind the end": "byte 256 (100h)", "the file ends in the segment table": "byte 132 (84h)",
@@ -28,8 +28,10 @@ TITLES = {
     "a reference to another module": "it refers to the module VIOCALLS, which is neither",
     "DOSCALLS.DosOpen": "it imports DOSCALLS.DosOpen, and this machine has no call of that name",
     "machine file, ordinals replace the whole list": "it imports DOSCALLS.5 (DosExit), which the table [ordinals] of the machine file leaves out",
-    "DOSCALLS.146": "it imports DOSCALLS.146 (DosSubSet), which isn't built yet", "DOSCALLS.70": "it imports DOSCALLS.70, and this machine has no call of that ordinal",
+    "DOSCALLS.144": "it imports DOSCALLS.144 (DosExecPgm), which isn't built yet", "DOSCALLS.70": "it imports DOSCALLS.70, and this machine has no call of that ordinal",
     "DOSCALLS.999": "it imports DOSCALLS.999, and this machine has no call of that ordinal",
+    "an ordinal that the shim hasn't, by run": "it imports DOSCALLS.2 (DosCWait), which isn't built yet",
+    "a name that the shim hasn't, by run": "it imports DOSCALLS.F, and this machine has no call of that name",
     "machine file, a process of no module": "a process runs the module hello.exe, which no file of `modules` is",
 }
 FAULTS = {1: "it is no TOML document", 2: "is missing", 3: "has another type or form", 4: "is outside its limits"}
@@ -38,10 +40,11 @@ LIMITS = {
     "file": "1,048,576", "memory": "a multiple of 16 from 4,096 to 16,777,216", "swap": "0 to 65,536", "segments": "1 to 65,535", "budget": "0 to 4,000,000,000",
     "quantum": "1 to 1,000,000", "avail": "0 to 4,294,967,295", "modules": "1 to 64, each of 1 to 255 bytes", "process": "1 to 64", "process.module": "1 to 255 bytes",
     "process.environment": "at most 65,536 bytes", "ordinals": "1 to 65,535", "script": "at most 100,000 words, of a process 1 to 65,535 with 1 to 4,000,000,000 steps",
+    "shim": "1 to 255 bytes",
 }
 # The keys that each of these faults can have.
 NEEDED = ["memory", "swap", "segments", "budget", "quantum", "modules", "process", "process.module"]
-READ = [*NEEDED, "avail", "process.environment", "ordinals", "script"]
+READ = [*NEEDED, "avail", "process.environment", "ordinals", "script", "shim"]
 KEYS = {1: [""], 2: NEEDED, 3: [*READ, "process.arguments"], 4: [*READ, "file"]}
 # The texts that were wanted so far.
 seen = set()
@@ -62,7 +65,9 @@ def sentence_of(title, status, line):
         return fault_of(int(words[4]), words[5] if len(words) > 5 else "")
     head, reason = words[2].removesuffix(":"), int(words[4])
     name = title.removeprefix("module, ")
-    first = "it isn't opened: a process has no module\n" if reason == 10 and name.startswith("machine file") else f"it isn't opened: the module in {head} is refused\n"
+    first = f"it isn't opened: the module in {head} is refused\n"
+    if reason == 10 and name.startswith("machine file"):
+        first = "it isn't opened: a process has no module\n"
     return (first, f"\n  reason {reason}: ", TITLES.get(name, REASONS.get(reason, "no sentence")))
 
 
@@ -190,8 +195,8 @@ def names(refusals):
     for target, line in (
         ("LIB.ONE", None), ("LIB.1", None), ("LIB.TWO", "  reason 12: it imports LIB.TWO, and LIB exports no such name"),
         ("LIB.2", "  reason 11: it imports LIB.2, and LIB has no entry of that ordinal"),
-        ("DOSCALLS.DosSubSet", "  reason 12: it imports DOSCALLS.DosSubSet, which isn't built yet"),
-        ("DOSCALLS.DOSSUBSET", "  reason 12: it imports DOSCALLS.DOSSUBSET, which isn't built yet"), ("DOSCALLS.DOSWRITE", None),
+        ("DOSCALLS.DosExecPgm", "  reason 12: it imports DOSCALLS.DosExecPgm, which isn't built yet"),
+        ("DOSCALLS.DOSEXECPGM", "  reason 12: it imports DOSCALLS.DOSEXECPGM, which isn't built yet"), ("DOSCALLS.DOSWRITE", None),
         ("DOSCALLS.DosAllocSeg", None), ("DOSCALLS.DosCreateCSAlias", None),
         ("A.B", "  reason 10: it refers to the module A, which is neither DOSCALLS nor a library among the files that are named"),
     ):
@@ -206,10 +211,10 @@ def names(refusals):
 def ordinals(refusals):
     """Imports by ordinal under a list of ordinals of the machine file's own."""
     with open("own.toml", "w") as file:
-        file.write(refusals.TOP.replace("hello.exe", "use.exe") + '[[process]]\nmodule = "USE"\n[ordinals]\nDosWrite = 138\nDosSubSet = 137\nDosSubAlloc = 200\n')
+        file.write(refusals.TOP.replace("hello.exe", "use.exe") + '[[process]]\nmodule = "USE"\n[ordinals]\nDosWrite = 138\nDosExecPgm = 137\nDosCWait = 200\n')
     for ordinal, line in (
-        (138, None), (137, "DOSCALLS.137 (DosSubSet), which isn't built yet"), (200, "DOSCALLS.200 (DosSubAlloc), which isn't built yet"),
-        (146, "DOSCALLS.146 (DosSubSet), which isn't built yet"), (34, "DOSCALLS.34 (DosAllocSeg), which the table [ordinals] of the machine file leaves out"), (94, "DOSCALLS.94 (DosGetPID), which the table [ordinals] of the machine file leaves out"),
+        (138, None), (137, "DOSCALLS.137 (DosExecPgm), which isn't built yet"), (200, "DOSCALLS.200 (DosCWait), which isn't built yet"),
+        (144, "DOSCALLS.144 (DosExecPgm), which isn't built yet"), (34, "DOSCALLS.34 (DosAllocSeg), which the table [ordinals] of the machine file leaves out"), (94, "DOSCALLS.94 (DosGetPID), which the table [ordinals] of the machine file leaves out"),
         (201, "DOSCALLS.201, and this machine has no call of that ordinal"),
     ):
         trying.count()
@@ -251,7 +256,7 @@ def inventory(refusals):
     """What executables import, how many open, and what is missing most."""
     trying.count()
     records = refusals.HELLO.index(b"\x03\x01\x0c\x00")
-    for name, ordinal in (("one.exe", 146), ("two.exe", 146), ("three.exe", 70)):
+    for name, ordinal in (("one.exe", 144), ("two.exe", 144), ("three.exe", 70)):
         with open(name, "wb") as file:
             file.write(refusals.row(refusals.HELLO, records + 6, ordinal))
     with open("text.exe", "w") as file:
@@ -263,7 +268,7 @@ def inventory(refusals):
         wrong(f"os2why imports upper.exe: {said('os2why', 'imports', 'upper.exe')}; wanted {wanted}")
     status, text = said("os2why", "imports", "hello.exe", "one.exe", "two.exe", "three.exe", "text.exe")
     lines = text.splitlines()
-    wanted = ["1 of 5 files open", "     2 DOSCALLS.DosSubSet is missing", "     1 DOSCALLS.70 is missing", "     4 DOSCALLS.DosExit is built", "     1 DOSCALLS.DosWrite is built"]
+    wanted = ["1 of 5 files open", "     2 DOSCALLS.DosExecPgm is missing", "     1 DOSCALLS.70 is missing", "     4 DOSCALLS.DosExit is built", "     1 DOSCALLS.DosWrite is built"]
     if status or lines[5:] != wanted or lines[1] != "one.exe: 1 of its imports are built, 1 are missing":
         wrong(f"os2why imports: status {status}, {text!r}; wanted {wanted}")
 

@@ -91,7 +91,7 @@ def prepare():
     for name in ("low/src/lib.rt", "low/specs/Lib.antt", "beside/src/lib.rt", "os2run/src/main.rt", "os2why/src/main.rt"):
         put(f"crates/{name}", "one\n")
     os.makedirs("copy/tools/lib")
-    for name in ("os2run", "os2why", "tools/lib/program.sh", "tools/lib/keep_program.sh"):
+    for name in ("os2run", "os2why", "tools/lib/program.sh", "tools/lib/watched.sh", "tools/lib/keep_program.sh"):
         shutil.copy(os.path.join(ROOT, name), os.path.join("copy", name))
     with open("bin/rt", "w") as file:
         file.write(RT)

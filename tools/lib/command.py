@@ -1,6 +1,6 @@
 """What all tools share: their words, their ends, and the programs that they run.
 
-Help goes to the standard output with the status 0; wrong words have the status 2. Where nobody reads on, as behind `| head`, a tool
+Help goes to the standard output with the status 0; wrong words have the status 2. Where nobody reads on, as in `| head`, a tool
 ends with 1 and says nothing.
 """
 import argparse

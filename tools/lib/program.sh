@@ -142,5 +142,6 @@ program_build() {
 program_run() {
     program_is_current || program_build || exit 70
     exec 9>&-
+    [ "$name" != os2run ] || ! has_terminal || run_watched "$@"
     exec "$program" "$@"
 }

@@ -64,7 +64,7 @@ def compiler():
 
 
 def check_words(name, wrong_words, parts=None):
-    """Help and version go to the standard output with status 0, the help behind a part with its options; wrong words have status 2, and
+    """Help and version go to the standard output with status 0, the help after a part with its options; wrong words have status 2, and
     nothing there."""
     for part, options in {"": (), **(parts or {})}.items():
         for word in ("--help", "-h"):

@@ -8,6 +8,7 @@ import shutil
 import struct
 import subprocess
 
+import heaps
 import trying
 from try_replay import GATES, ORDINALS, STRINGS, entries_of, is_alike, patch, string_at, told, words_at
 from try_vectors import NAMES
@@ -91,9 +92,11 @@ class Module:
 class Linked:
     """The modules of a machine file, with the selectors of their segments."""
 
-    def __init__(self, files):
+    def __init__(self, files, shim=None):
         self.modules, at = [Module(file) for file in files], SHARED
         self.by_name = {module.name: module for module in self.modules}
+        # the library that answers for DOSCALLS where no call is built
+        self.shim = self.by_name[shim.upper()] if shim else None
         for module in self.modules:
             module.first = at if module.is_library else 1
             at += len(module.table) if module.is_library else 0
@@ -108,9 +111,10 @@ class Linked:
             return self.selector(module, number), offset
         other = module.references[first - 1]
         name = None if flags & 3 == 1 else string_at(module.file, module.at + module.imported + second).decode("latin-1")
-        if other == "DOSCALLS":
-            return 8 * (16 + GATES[name or ORDINALS[second]]) + 3, 0
-        library = self.by_name[other]
+        call = name or ORDINALS.get(second)
+        if other == "DOSCALLS" and (call in GATES or not self.shim):
+            return 8 * (16 + GATES[call]) + 3, 0
+        library = self.shim if other == "DOSCALLS" else self.by_name[other]
         number, offset = library.entries[second if name is None else library.names[name.upper()]]
         return self.selector(library, number), offset
 
@@ -129,6 +133,7 @@ class Linked:
         found, left = set(), [module]
         while left:
             for name in left.pop().references:
+                name = self.shim.name if name == "DOSCALLS" and self.shim else name
                 if name != "DOSCALLS" and name not in found:
                     found.add(name)
                     left.append(self.by_name[name])
@@ -146,7 +151,7 @@ class Written:
     """The processes of a machine, whose segments lie in the memory of the other processor."""
 
     def __init__(self, processor, setting, files, source):
-        self.linked, self.source, self.count = Linked(files), source, 0
+        self.linked, self.source, self.count = Linked(files, setting.get("shim")), source, 0
         self.run = subprocess.Popen([processor], stdin=subprocess.PIPE, stdout=subprocess.PIPE, text=True)
         # segments that all processes share; images by the module's place and the segment's number, and of environments by 0 and the
         # process; how many segments each run has; and what a call makes
@@ -216,6 +221,12 @@ class Written:
         if name == "DosRead" and given[0]:
             selector, at = pointers[0]
             self.put(held[selector | 3][0], at, self.source.read(given[0]))
+        if name.startswith("DosSub"):
+            segment = held[numbers[0] | 3][0]
+            data = bytearray(self.get(segment))
+            if not heaps.called(data, name, numbers[1:], given):
+                raise Astray(f"{name} {words} = {values}, where the segment's bytes say something else")
+            self.put(segment, 0, bytes(data))
         if pointers:
             selector, at = pointers[-1]
             form = "<I" if name in ("DosMemAvail", "DosSizeSeg") else f"<{len(given)}H"

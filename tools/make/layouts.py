@@ -2,7 +2,7 @@
 """Takes the pictures of memory in the lessons from the machine: each file examples/*/NAME.layout, of which `tools/picture.py memory` draws one,
 is what core images show of a run that ends at the steps which it names.
 
-A layout begins with `of FILE`, a machine file of one process beside it. Behind `behind step N in M bytes` it has a line for each selector
+A layout begins with `of FILE`, a machine file of one process beside it. After `after step N in M bytes` it has a line for each selector
 that the process holds then: the size of its segment, and where that is. The image is what `dump` gives of FILE with N as its budget.
 (OS2RUN in the environment names another program.)
 """
@@ -25,7 +25,7 @@ class Refused(Exception):
 
 
 def image(folder, name, steps):
-    """The core image of a machine file behind so many steps."""
+    """The core image of a machine file after so many steps."""
     with open(os.path.join(folder, name)) as file:
         text, count = re.subn(r"(?m)^budget = \d+", f"budget = {steps}", file.read())
     if count != 1:
@@ -54,7 +54,7 @@ def where(entry):
 def moment(folder, name, steps):
     """The lines of one moment."""
     core = image(folder, name, steps)
-    yield f"behind step {steps} in {core.size} bytes"
+    yield f"after step {steps} in {core.size} bytes"
     ((_, _, _, entries),) = core.processes.values()
     for index, (_, _, _, number, _) in entries.items():
         entry = core.segments[number]
@@ -66,9 +66,9 @@ def layout(path):
     with open(path) as file:
         text = file.read()
     of = re.match(r"of (\S+)\n", text)
-    steps = [int(number) for number in re.findall(r"(?m)^behind step (\d+) in ", text)]
+    steps = [int(number) for number in re.findall(r"(?m)^after step (\d+) in ", text)]
     if not of or not steps:
-        raise Refused("it doesn't say of which machine file it is, or behind which steps")
+        raise Refused("it doesn't say of which machine file it is, or after which steps")
     lines = [f"of {of[1]}"]
     for number in steps:
         lines += moment(os.path.dirname(path), of[1], number)

@@ -8,7 +8,7 @@ KIND is one of
   fronts     SIZE names of twelve bytes of which the first nine are the same, as both tables at once
   ordinals   SIZE segments that share the records of 65,535 imports by ordinal, of a module with a name of 255 bytes
   shared     SIZE segments that share the records of 65,535 imports by name, over 8,000 names
-  astride    SIZE segments, the bytes and the records of each 16 bytes behind those of the one before it in the file, so that
+  astride    SIZE segments, the bytes and the records of each 16 bytes after those of the one before it in the file, so that
              they meet and no two have the same: some 59,000 imports by name each
   apart      the same segments, each before those that lie before it in the file
   lost       the same again, with one record that leads nowhere: the first in the file, which the last segment alone has
@@ -57,7 +57,7 @@ def bundles(count, last):
 
 def build(own, names, imported, records, segments, twice=False, program=False, step=0, falling=False, entries=bytes([1, 1, 1, 0, 0, 0])):
     """A library, or a program whose last segment is its stack: with these entries, `segments` segments with the same records,
-    or each with those `step` units of 16 bytes behind the one before it, or before it where they are falling, and a reference to
+    or each with those `step` units of 16 bytes after the one before it, or before it where they are falling, and a reference to
     the first imported name."""
     at = 64
     parts = b""
@@ -68,7 +68,7 @@ def build(own, names, imported, records, segments, twice=False, program=False, s
         ("imported", b"".join(counted(text) for text in imported)),
         ("resident", table(own, names)),
     )
-    # the longest last, since each begins at most 65,535 bytes behind the header
+    # the longest last, since each begins at most 65,535 bytes after the header
     for name, content in (("segments", b"\0" * (8 * segments)), *sorted(tables, key=lambda part: len(part[1]))):
         places[name] = at + len(parts)
         parts += content

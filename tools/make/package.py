@@ -21,7 +21,7 @@ from command import PROGRAMS, ROOT
 NAME = "os2run-linux-x86_64"
 # 1 January 2026, 00:00 UTC
 TIME = 1_767_225_600
-TOOLS = ("run.py", "ne.py", "link.py", "imports.py", "picture.py", "reach.py", "calls.py", "vectors.py", "completion.bash", "lib/command.py", "lib/calls.toml", "lib/instructions.py", "lib/core_image.py", "make/layouts.py", "make/limits.py")
+TOOLS = ("run.py", "ne.py", "link.py", "imports.py", "picture.py", "reach.py", "calls.py", "vectors.py", "completion.bash", "lib/command.py", "lib/watched.py", "lib/calls.toml", "lib/instructions.py", "lib/core_image.py", "make/layouts.py", "make/limits.py")
 README = """os2run runs programs of OS/2 1.x's 16-bit protected mode that use no screen, on Linux on x86-64 with glibc 2.34 or later.
 
     sha256sum -c SHA256SUMS                        all files are as they were packed

@@ -3,7 +3,7 @@
 
   nasm -f bin -l NAME.made -o NAME.bin NAME.asm && tools/ne.py NAME.made NAME.exe
 
-Text that is an instruction stands as one, with names for the targets of its jumps; other bytes stand as bytes, with their text behind them.
+Text that is an instruction stands as one, with names for the targets of its jumps; other bytes stand as bytes, with their text after them.
 Where nasm would take other bytes for an instruction, the bytes stand there too.
 """
 import os
@@ -20,6 +20,7 @@ import instructions
 import ne
 
 JUMP = re.compile(r"(j\w+|loop\w*|call)$")
+NAMED = re.compile(r"(j\w+|loop\w*|call) (short )?L[0-9A-F]{4}$")
 
 
 class Line:
@@ -123,17 +124,21 @@ def assembled(lines, folder):
     return listing, made, refused, run.stderr
 
 
+def is_other(made, code):
+    """Whether nasm made other bytes of a line, if it told any."""
+    return made is not None and made != [code] and b"".join(it for it in made if isinstance(it, bytes)) != code
+
+
 def source_of(text):
     """The source of a listing, and the executable that it makes."""
     lines = lines_of(text)
     with tempfile.TemporaryDirectory() as folder:
         for _ in range(40):
             listing, made, refused, said = assembled(lines, folder)
-            wrong = 0
-            for at, line in enumerate(lines, 1):
-                if line.text is None and len(line.ways) > 1 and (at in refused or not refused and made.get(at) != [line.code] and made.get(at) is not None and b"".join(it for it in made[at] if isinstance(it, bytes)) != line.code):
-                    line.ways.pop(0)
-                    wrong += 1
+            wrong = [line for at, line in enumerate(lines, 1) if line.text is None and len(line.ways) > 1 and (at in refused or not refused and is_other(made.get(at), line.code))]
+            # (a jump over a line that is too short is wrong only as long as that line is)
+            for line in [line for line in wrong if not NAMED.match(line.ways[0])] or wrong:
+                line.ways.pop(0)
             if not wrong:
                 break
         if refused:
