@@ -182,6 +182,19 @@ def check_code():
             wrong(f"os2list, opcode {opcode:02X}: {texts}")
 
 
+def check_marks():
+    """Which imports a shim would have to give: those from DOSCALLS that are no built service, by ordinals and by names."""
+    targets = ("DOSCALLS.138", "DOSCALLS.DosExit", "doscalls.DOSWRITE", "DOSCALLS.92", "DOSCALLS.144", "DOSCALLS.DosCWait", "DOSCALLS.DosOpen", "VIOCALLS.19", "VIOCALLS.DosOpen")
+    rows = "".join(f"{5 * k:04X}  9A FF FF 00 00  call @{5 * k + 1:04X} far {target}\n" for k, target in enumerate(targets))
+    text = listing_of("marks.exe", f"module MARKS\nstart 1:0000\nsegment 1 code\n{rows}segment 2 data auto size=4\n")
+    trying.count()
+    found = sorted(line[8:] for line in text.split("\nimports: 9\n")[-1].split("\n\n")[0].splitlines())
+    wanted = sorted(("DOSCALLS.138 (DosWrite)", "DOSCALLS.DosExit", "doscalls.DOSWRITE", "DOSCALLS.92, for a shim", "DOSCALLS.144 (DosExecPgm), for a shim", "DOSCALLS.DosCWait, for a shim",
+                     "DOSCALLS.DosOpen, for a shim", "VIOCALLS.19", "VIOCALLS.DosOpen"))
+    if found != wanted or text.count("for a shim") != 4:
+        wrong(f"os2list marks.exe: {found}; wanted {wanted}")
+
+
 def check_wait():
     """Of `lock wait` nasm makes the two bytes in the other order."""
     trying.count()
@@ -199,6 +212,7 @@ def check_list():
     check_words("os2list", [])
     check_tables()
     check_code()
+    check_marks()
     if not shutil.which("nasm"):
         print("listings: nasm isn't installed (apt-get install nasm), so none is read back")
         return

@@ -8,6 +8,9 @@ import trying
 import refusals
 from trying import EXAMPLES, check_words, program, said, wrong
 
+# What is told of an import of DOSCALLS beside, without a shim and with the one that the refusals have.
+MAY = ". A library that answers for DOSCALLS (the key `shim`) may give it\n"
+NEITHER = ", and the shim LIB has none either\n"
 # What stands in the sentence of a reason, or of one of its titles in tools/checks/refusals.py.
 REASONS = {
     1: "it doesn't begin with MZ", 2: "there is no NE where the four bytes at 3Ch say", 3: "it ends early: byte", 4: "it is for another system",
@@ -26,12 +29,12 @@ TITLES = {
     "a data segment at level 2": "privilege level 1 or 2", "a data segment of 32 bits": "32 bits", "conforming code": "conforming code",
     "data and stack over 65,536 bytes": "more than 65,536 bytes", "a chain out of the segment's bytes": "offset 1000h", "a chain that meets itself": "offset 000Ch",
     "a reference to another module": "it refers to the module VIOCALLS, which is neither",
-    "DOSCALLS.DosOpen": "it imports DOSCALLS.DosOpen, and this machine has no call of that name",
-    "machine file, ordinals replace the whole list": "it imports DOSCALLS.5 (DosExit), which the table [ordinals] of the machine file leaves out",
-    "DOSCALLS.144": "it imports DOSCALLS.144 (DosExecPgm), which isn't built yet", "DOSCALLS.70": "it imports DOSCALLS.70, and this machine has no call of that ordinal",
-    "DOSCALLS.999": "it imports DOSCALLS.999, and this machine has no call of that ordinal",
-    "an ordinal that the shim hasn't, by run": "it imports DOSCALLS.2 (DosCWait), which isn't built yet",
-    "a name that the shim hasn't, by run": "it imports DOSCALLS.F, and this machine has no call of that name",
+    "DOSCALLS.DosOpen": "it imports DOSCALLS.DosOpen, and this machine has no call of that name" + MAY,
+    "machine file, ordinals replace the whole list": "it imports DOSCALLS.5 (DosExit), which the table [ordinals] of the machine file leaves out" + MAY,
+    "DOSCALLS.144": "it imports DOSCALLS.144 (DosExecPgm), which isn't built yet" + MAY, "DOSCALLS.70": "it imports DOSCALLS.70, and this machine has no call of that ordinal" + MAY,
+    "DOSCALLS.999": "it imports DOSCALLS.999, and this machine has no call of that ordinal" + MAY,
+    "an ordinal that the shim hasn't, by run": "it imports DOSCALLS.2 (DosCWait), which isn't built yet" + NEITHER,
+    "a name that the shim hasn't, by run": "it imports DOSCALLS.F, and this machine has no call of that name" + NEITHER,
     "machine file, a process of no module": "a process runs the module hello.exe, which no file of `modules` is",
 }
 FAULTS = {1: "it is no TOML document", 2: "is missing", 3: "has another type or form", 4: "is outside its limits"}
@@ -68,6 +71,8 @@ def sentence_of(title, status, line):
     first = f"it isn't opened: the module in {head} is refused\n"
     if reason == 10 and name.startswith("machine file"):
         first = "it isn't opened: a process has no module\n"
+    if reason == 18:
+        first = "it isn't opened: the key `shim` names no listed library\n"
     return (first, f"\n  reason {reason}: ", TITLES.get(name, REASONS.get(reason, "no sentence")))
 
 
@@ -118,7 +123,7 @@ def odd(title, text, *wanted):
 
 
 def check_why():
-    check_words("os2why", ["exe"], {"exe": (), "run": (), "imports": ()})
+    check_words("os2why", ["exe"], {"exe": (), "run": (), "imports": ("--machine",)})
     refusals = refusals_each_once()
     good = refusals.TOP + refusals.PROCESS
     oddities(good)
@@ -128,6 +133,7 @@ def check_why():
     ordinals(refusals)
     lost(refusals)
     inventory(refusals)
+    shims(refusals)
     runs_nothing()
 
 
@@ -195,8 +201,8 @@ def names(refusals):
     for target, line in (
         ("LIB.ONE", None), ("LIB.1", None), ("LIB.TWO", "  reason 12: it imports LIB.TWO, and LIB exports no such name"),
         ("LIB.2", "  reason 11: it imports LIB.2, and LIB has no entry of that ordinal"),
-        ("DOSCALLS.DosExecPgm", "  reason 12: it imports DOSCALLS.DosExecPgm, which isn't built yet"),
-        ("DOSCALLS.DOSEXECPGM", "  reason 12: it imports DOSCALLS.DOSEXECPGM, which isn't built yet"), ("DOSCALLS.DOSWRITE", None),
+        ("DOSCALLS.DosExecPgm", "  reason 12: it imports DOSCALLS.DosExecPgm, which isn't built yet" + MAY.rstrip()),
+        ("DOSCALLS.DOSEXECPGM", "  reason 12: it imports DOSCALLS.DOSEXECPGM, which isn't built yet" + MAY.rstrip()), ("DOSCALLS.DOSWRITE", None),
         ("DOSCALLS.DosAllocSeg", None), ("DOSCALLS.DosCreateCSAlias", None),
         ("A.B", "  reason 10: it refers to the module A, which is neither DOSCALLS nor a library among the files that are named"),
     ):
@@ -220,7 +226,7 @@ def ordinals(refusals):
         trying.count()
         with open("use.exe", "wb") as file:
             file.write(ne.Listing(f"module USE\nstack 512\nstart 1:0000\nsegment 1 code\n0000  9A FF FF 00 00  call @0001 far DOSCALLS.{ordinal}\nsegment 2 data auto size=16\n").file())
-        wanted = (1, f"it isn't opened: the module in use.exe is refused\n  reason 11: it imports {line}\n") if line else (0, "it opens\n")
+        wanted = (1, f"it isn't opened: the module in use.exe is refused\n  reason 11: it imports {line}{MAY}") if line else (0, "it opens\n")
         if said("os2why", "run", "own.toml") != wanted:
             wrong(f"os2why, its own ordinals, {ordinal}: {said('os2why', 'run', 'own.toml')}; wanted {wanted}")
 
@@ -268,9 +274,89 @@ def inventory(refusals):
         wrong(f"os2why imports upper.exe: {said('os2why', 'imports', 'upper.exe')}; wanted {wanted}")
     status, text = said("os2why", "imports", "hello.exe", "one.exe", "two.exe", "three.exe", "text.exe")
     lines = text.splitlines()
+    beside = ["  a shim would have to give 1 of them: DOSCALLS.DosExecPgm"] * 2 + ["  a shim would have to give 1 of them: DOSCALLS.70"]
     wanted = ["1 of 5 files open", "     2 DOSCALLS.DosExecPgm is missing", "     1 DOSCALLS.70 is missing", "     4 DOSCALLS.DosExit is built", "     1 DOSCALLS.DosWrite is built"]
-    if status or lines[5:] != wanted or lines[1] != "one.exe: 1 of its imports are built, 1 are missing":
+    if status or lines[8:] != wanted or lines[1] != "one.exe: 1 of its imports are built, 1 are missing" or lines[2:7:2] != beside:
         wrong(f"os2why imports: status {status}, {text!r}; wanted {wanted}")
+
+
+def program_of(*targets):
+    """A program with a far pointer to each of these, or an offset where a target has a ~ before it."""
+    rows = "".join(f"{5 * k:04X}  9A FF FF 00 00  call @{5 * k + 1:04X} {'offset' if target[0] == '~' else 'far'} {target.strip('~')}\n" for k, target in enumerate(targets))
+    return ne.Listing(f"module USE\nstack 512\nstart 1:0000\nsegment 1 code\n{rows}segment 2 data auto size=16\n").file()
+
+
+def shims(refusals):
+    """What a shim gives and what it lacks, by ordinals and by names, beside built services, other libraries, and ordinals of the machine file's own."""
+    library = "module {} library\nexport {} 1:0000 ordinal=92\nexport DOSWRITE 1:0001 ordinal=138\nsegment 1 code\n0000  90  nop\n0001  90  nop\n"
+    for name, text in (("shim.dll", library.format("SHIM", "ASKED")), ("other.dll", library.format("OTHER", "THIS"))):
+        with open(name, "wb") as file:
+            file.write(ne.Listing(text).file())
+    keys = {"with.toml": 'shim = "shim"\n', "without.toml": "", "lost.toml": 'shim = "LOST"\n', "own.toml": 'shim = "SHIM"\nordinals = { DosExit = 5, DosWrite = 92 }\n'}
+    for name, key in keys.items():
+        with open(name, "w") as file:
+            file.write(refusals.TOP.replace('"hello.exe"', '"use.exe", "shim.dll", "other.dll"') + key + '[[process]]\nmodule = "USE"\n')
+    targets = ("DOSCALLS.5", "~DOSCALLS.92", "DOSCALLS.asked", "DOSCALLS.DosWrite", "DOSCALLS.138", "DOSCALLS.93", "DOSCALLS.THIS", "OTHER.this", "OTHER.92", "OTHER.ASKED", "NOBODY.1")
+    with open("use.exe", "wb") as file:
+        file.write(program_of(*targets))
+    built = ["     1 DOSCALLS.DosExit is built", "     1 DOSCALLS.DosWrite is built"]
+    given = ["     1 OTHER.92 is given", "     1 OTHER.this is given"]
+    missing = ["DOSCALLS.93", "DOSCALLS.THIS", "NOBODY.1", "OTHER.ASKED"]
+    listed = lambda names, how: [f"     1 {name} is {how}" for name in sorted(names)]
+    for words, wanted in (
+        (["use.exe"], ["use.exe: 2 of its imports are built, 8 are missing", "  a shim would have to give 4 of them: DOSCALLS.92, DOSCALLS.93, DOSCALLS.THIS, DOSCALLS.asked", "0 of 1 files open",
+                       *listed([*missing, "DOSCALLS.92", "DOSCALLS.asked", "OTHER.92", "OTHER.this"], "missing"), *built]),
+        (["--machine", "with.toml", "use.exe"], ["use.exe: 2 of its imports are built, 4 are given by libraries, 4 are missing", "  the shim shim gives 2 of them: DOSCALLS.92, DOSCALLS.asked",
+                                                 "  the shim shim lacks 2 of them: DOSCALLS.93, DOSCALLS.THIS", *listed(missing, "missing"),
+                                                 *listed(["DOSCALLS.92", "DOSCALLS.asked", "OTHER.92", "OTHER.this"], "given"), *built]),
+        (["-m", "without.toml", "use.exe"], ["use.exe: 2 of its imports are built, 2 are given by libraries, 6 are missing", "  a shim would have to give 4 of them: DOSCALLS.92, DOSCALLS.93, DOSCALLS.THIS, DOSCALLS.asked",
+                                             *listed([*missing, "DOSCALLS.92", "DOSCALLS.asked"], "missing"), *given, *built]),
+        (["-m", "lost.toml", "use.exe"], ["use.exe: 2 of its imports are built, 2 are given by libraries, 6 are missing", "  the shim LOST lacks 4 of them: DOSCALLS.92, DOSCALLS.93, DOSCALLS.THIS, DOSCALLS.asked",
+                                          *listed([*missing, "DOSCALLS.92", "DOSCALLS.asked"], "missing"), *given, *built]),
+        # DOSCALLS.92 is DosWrite here, so DOSCALLS.138 is the shim's; DosWrite by its name stays
+        (["-m", "own.toml", "use.exe"], ["use.exe: 2 of its imports are built, 4 are given by libraries, 4 are missing", "  the shim SHIM gives 2 of them: DOSCALLS.138, DOSCALLS.asked",
+                                         "  the shim SHIM lacks 2 of them: DOSCALLS.93, DOSCALLS.THIS", *listed(missing, "missing"),
+                                         *listed(["DOSCALLS.138", "DOSCALLS.asked", "OTHER.92", "OTHER.this"], "given"), *built]),
+        # two files, of which one is a library: each import counts once a file
+        (["-m", "with.toml", "use.exe", "shim.dll", "use.exe"], ["use.exe: 2 of its imports are built, 4 are given by libraries, 4 are missing", "  the shim shim gives 2 of them: DOSCALLS.92, DOSCALLS.asked",
+                                                                 "  the shim shim lacks 2 of them: DOSCALLS.93, DOSCALLS.THIS", "shim.dll: 0 of its imports are built, 0 are missing"] + 0 * [""]),
+    ):
+        trying.count()
+        status, text = said("os2why", "imports", *words)
+        lines = text.splitlines()
+        if len(words) == 5:
+            lines, counts = lines[: len(wanted)], [line for line in lines if line.startswith("     2 ")]
+            if len(counts) != 10:
+                wrong(f"os2why imports {' '.join(words)}: {text!r}; wanted ten that two files import")
+        if status or lines != wanted:
+            wrong(f"os2why imports {' '.join(words)}: status {status}, {lines}; wanted {wanted}")
+    # what the sentence says of the same imports, one at a time
+    with open("none.toml", "w") as file:
+        file.write("x = 1\n")
+    for target, line in (
+        ("DOSCALLS.92", None), ("DOSCALLS.ASKED", None), ("DOSCALLS.138", None), ("OTHER.92", None),
+        ("DOSCALLS.93", "11: it imports DOSCALLS.93, and this machine has no call of that ordinal, and the shim shim has none either"),
+        ("DOSCALLS.144", "11: it imports DOSCALLS.144 (DosExecPgm), which isn't built yet, and the shim shim has none either"),
+        ("DOSCALLS.THIS", "12: it imports DOSCALLS.THIS, and this machine has no call of that name, and the shim shim has none either"),
+        ("DOSCALLS.DosCWait", "12: it imports DOSCALLS.DosCWait, which isn't built yet, and the shim shim has none either"),
+        ("OTHER.ASKED", "12: it imports OTHER.ASKED, and OTHER exports no such name"), ("OTHER.93", "11: it imports OTHER.93, and OTHER has no entry of that ordinal"),
+    ):
+        trying.count()
+        with open("use.exe", "wb") as file:
+            file.write(program_of(target))
+        wanted = (1, f"it isn't opened: the module in use.exe is refused\n  reason {line}\n") if line else (0, "it opens\n")
+        if said("os2why", "run", "with.toml") != wanted:
+            wrong(f"os2why, with a shim, {target}: {said('os2why', 'run', 'with.toml')}; wanted {wanted}")
+    with open("text.dll", "w") as file:
+        file.write("no library")
+    with open("text.toml", "w") as file:
+        file.write(refusals.TOP.replace('"hello.exe"', '"use.exe", "text.dll"') + '[[process]]\nmodule = "USE"\n')
+    for name in ("none.toml", "nowhere.toml", "text.toml"):
+        trying.count()
+        run = subprocess.run([program("os2why"), "imports", "-m", name, "use.exe"], stdin=subprocess.DEVNULL, capture_output=True, text=True)
+        wanted = (3, "", f"os2why: the machine file {name} isn't read, or a module of it: `os2why run` says why\n")
+        if (run.returncode, run.stdout, run.stderr) != wanted:
+            wrong(f"os2why imports -m {name}: {run}; wanted {wanted}")
 
 
 def runs_nothing():

@@ -133,9 +133,23 @@ words_of asked listed fault.NoEntry = codes "it has no entry point: CS:IP lies i
 words_of asked listed fault.NoSegment = codes "its processes want more segments than the key `segments` allows: raise it"
 words_of asked listed (fault.NoShim name) = shim_text name
 
+-- whether an import of DOSCALLS is refused
+abbrev pub asks_system : ModuleFault → Bool
+asks_system (fault.NoOrdinal name ordinal) = is_doscalls name
+asks_system (fault.NoName name call) = is_doscalls name
+asks_system _ = false
+
+-- what is told of such an import beside: a library may give it, or the one that the key `shim` names hasn't it
+abbrev pub gift_text : Option (List ℕ) → List ℕ
+gift_text None = codes ". A library that answers for DOSCALLS (the key `shim`) may give it"
+gift_text (Some shim) = codes ", and the shim " ++ (shown_text shim ++ codes " has none either")
+
+abbrev pub beside_text : Option (List ℕ) → ModuleFault → List ℕ
+beside_text shim f = if asks_system f then gift_text shim else []
+
 -- the number of the reason as os2run tells it, and why
-abbrev pub sentence_of : Bool → Option ℕ → ModuleFault → List ℕ
-sentence_of asked listed f = codes "reason " ++ (module_reason f ++ (codes ": " ++ words_of asked listed f))
+abbrev pub sentence_of : Bool → Option ℕ → Option (List ℕ) → ModuleFault → List ℕ
+sentence_of asked listed shim f = codes "reason " ++ (module_reason f ++ (codes ": " ++ (words_of asked listed f ++ beside_text shim f)))
 
 -- what a key has to be
 abbrev pub form_text : Key → List ℕ
@@ -184,20 +198,24 @@ machine_words (machine.Limit k) = codes "the key `" ++ (key_text k ++ (codes "` 
 abbrev pub machine_sentence : MachineFault → List ℕ
 machine_sentence f = codes "reason " ++ (machine_text f ++ (codes ": " ++ machine_words f))
 
--- why a module doesn't open, with the file that it is in
-abbrev pub asked_text : ModuleFault → List ℕ
-asked_text (fault.NoShim name) = codes "the key `shim` names no listed library"
-asked_text _ = codes "a process has no module"
+-- what is refused: the module in a file, a process whose module no file has, or the key `shim`
+abbrev pub place_text : Bool → List ℕ → List ℕ
+place_text true name = codes "a process has no module"
+place_text false name = codes "the module in " ++ (shown_text name ++ codes " is refused")
 
-abbrev pub module_text : Bool → Option ℕ → List ℕ → ModuleFault → List ℕ
-module_text true listed name f = asked_text f ++ (codes "\n  " ++ sentence_of true listed f)
-module_text false listed name f = codes "the module in " ++ (shown_text name ++ (codes " is refused\n  " ++ sentence_of false listed f))
+abbrev pub head_text : Bool → List ℕ → ModuleFault → List ℕ
+head_text asked name (fault.NoShim shim) = codes "the key `shim` names no listed library"
+head_text asked name _ = place_text asked name
 
--- why a command isn't opened; of a module that isn't there, whether a process asks for it, and of an ordinal, which service the machine
--- file has under it
-abbrev pub cause_text : Bool → Option ℕ → OpenFault → List ℕ
-cause_text asked listed (open_fault.NoFile name) = codes "there is no file " ++ shown_text name
-cause_text asked listed (open_fault.BadMachine f) = codes "the machine file is refused\n  " ++ machine_sentence f
-cause_text asked listed (open_fault.BadModule name f) = module_text asked listed name f
-cause_text asked listed open_fault.FileFault = codes "a file can't be read"
-cause_text asked listed open_fault.NoMemory = codes "there is no memory for it"
+-- why a module doesn't open
+abbrev pub module_text : Bool → Option ℕ → Option (List ℕ) → List ℕ → ModuleFault → List ℕ
+module_text asked listed shim name f = head_text asked name f ++ (codes "\n  " ++ sentence_of asked listed shim f)
+
+-- why a command isn't opened; of a module that isn't there, whether a process asks for it; of an ordinal, which service the machine
+-- file has under it; and of an import of DOSCALLS, the shim that it names
+abbrev pub cause_text : Bool → Option ℕ → Option (List ℕ) → OpenFault → List ℕ
+cause_text asked listed shim (open_fault.NoFile name) = codes "there is no file " ++ shown_text name
+cause_text asked listed shim (open_fault.BadMachine f) = codes "the machine file is refused\n  " ++ machine_sentence f
+cause_text asked listed shim (open_fault.BadModule name f) = module_text asked listed shim name f
+cause_text asked listed shim open_fault.FileFault = codes "a file can't be read"
+cause_text asked listed shim open_fault.NoMemory = codes "there is no memory for it"

@@ -16,8 +16,14 @@ fn with_files<'a>(alloc: Global) -> Result<Command<'a>, AllocError> {
         .required(true)
         .action(ArgAction::Append)
         .num_args(1..);
+    let machine = Arg::new(alloc, "machine")
+        .short('m')
+        .long("machine")
+        .value_name("MACHINE")
+        .help("Looks imports up in the setting and the libraries of this machine file, too");
     Command::new(alloc, "imports")
         .about("Lists what executables import, what of it is built, and how many of them open")
+        .arg(machine)?
         .arg(files)
 }
 

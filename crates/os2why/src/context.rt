@@ -6,6 +6,7 @@ ghost use Rattle.o2_dynlink.specs.Imports.{service_with};
 ghost use Rattle.o2_dynlink.specs.Linking.{linked_of};
 ghost use Rattle.os2why.specs.Judges.{asks};
 
+use crate::services::service_in;
 use o2_base::{Bytes, Fail, ModuleFault, NoMemory};
 use o2_conf::Conf;
 use o2_dynlink::link;
@@ -15,29 +16,24 @@ use o2_outer::{Fetch, Files};
 use std::alloc::Global;
 
 /// What a sentence goes by beside the refusal.
-#[derive(Clone, Copy)]
+#[derive(Drop)]
 pub struct Context {
     /// Whether a process asks for the module that isn't there, and not a module.
     pub asked: bool,
     /// The service that the machine file has under the ordinal that isn't there.
     pub listed: Option<u16>,
+    /// The name of the library that answers for DOSCALLS.
+    pub shim: Option<Bytes>,
 }
 
 impl Context {
     /// Where there is no machine file, or the refusal is of another kind.
-    pub const NONE: Context = Context {
-        asked: false,
-        listed: None,
-    };
-}
-
-/// The service that has an ordinal among these.
-fn service_in(ordinals: &[(u16, u16)], ordinal: u16) -> Option<u16>
-    ensures { result ≡ service_with ordinals.now ordinal }
-{
-    match ordinals.iter().find(|p| p.1 == ordinal) {
-        Some(pair) => Some(pair.0),
-        None => None,
+    pub fn none() -> Context {
+        Context {
+            asked: false,
+            listed: None,
+            shim: None,
+        }
     }
 }
 
@@ -53,7 +49,11 @@ fn listed(conf: &Conf, refusal: &ModuleFault) -> Option<u16>
 }
 
 /// The setting of a machine file; none where it has none.
-fn setting<F: Files>(alloc: Global, files: &mut F, name: &Bytes) -> Result<Option<Conf>, NoMemory> {
+pub fn setting<F: Files>(
+    alloc: Global,
+    files: &mut F,
+    name: &Bytes,
+) -> Result<Option<Conf>, NoMemory> {
     match files.fetch(alloc, name, 1_048_576) {
         Fetch::Got(file) => match Conf::read(alloc, file.as_slice()) {
             Ok(conf) => Ok(Some(conf)),
@@ -87,7 +87,7 @@ fn module_in<F: Files>(
 }
 
 /// The modules in these files; none where one of them has none.
-fn modules_in<F: Files>(
+pub fn modules_in<F: Files>(
     alloc: Global,
     files: &mut F,
     names: &[Bytes],
@@ -135,15 +135,20 @@ pub fn read_context<F: Files>(
     refusal: &OpenFault,
 ) -> Result<Context, NoMemory> {
     let OpenFault::BadModule(_, refusal) = refusal else {
-        return Ok(Context::NONE);
+        return Ok(Context::none());
     };
     let Some(conf) = setting(alloc, files, name)? else {
-        return Ok(Context::NONE);
+        return Ok(Context::none());
     };
     let listed = listed(&conf, refusal);
     let asked = match refusal {
         ModuleFault::NoModule(_) => asked_in(alloc, files, &conf)?,
         _ => false,
     };
-    Ok(Context { asked, listed })
+    let Conf { shim, .. } = conf;
+    Ok(Context {
+        asked,
+        listed,
+        shim,
+    })
 }

@@ -6,9 +6,11 @@ ghost use Rattle.o2_words.specs.Words.{HasCount};
 mod command;
 mod context;
 mod imports;
+mod inventory;
 mod judge;
 mod lines;
 mod machine;
+mod scope;
 mod sentences;
 mod services;
 
@@ -29,10 +31,10 @@ fn context_of(
     refusal: Option<&OpenFault>,
 ) -> anyhow::Result<Context> {
     if verb != Verb::Run {
-        return Ok(Context::NONE);
+        return Ok(Context::none());
     }
     let Some(refusal) = refusal else {
-        return Ok(Context::NONE);
+        return Ok(Context::none());
     };
     let mut files = FolderFiles::new(rt);
     match read_context(rt.alloc(), &mut files, name, refusal) {
@@ -51,11 +53,17 @@ fn say(rt: &HostRuntime, verb: Verb, file: &str) -> anyhow::Result<ExitCode>
     if let Some(OpenFault::NoMemory) = &refusal {
         anyhow::bail!("there is no memory");
     }
-    let Context { asked, listed } = context_of(rt, verb, &name, refusal.as_ref())?;
-    let text = sentences::verdict(rt.alloc(), refusal.as_ref(), asked, listed)?;
+    let context = context_of(rt, verb, &name, refusal.as_ref())?;
+    let text = sentences::verdict(
+        rt.alloc(),
+        refusal.as_ref(),
+        context.asked,
+        context.listed,
+        &context.shim,
+    )?;
     println!(rt; "{text}")?;
     if verb == Verb::Run {
-        machine::tell(rt, &name, refusal.as_ref(), asked)?;
+        machine::tell(rt, &name, refusal.as_ref(), context.asked)?;
     }
     if refusal.is_none() {
         Ok(ExitCode::SUCCESS)
@@ -78,7 +86,7 @@ fn obey(rt: &HostRuntime, words: &[String], matches: &ArgMatches<'_>) -> anyhow:
         return Ok(ExitCode::SUCCESS);
     };
     if verb == "imports" {
-        return imports::inventory(rt, found);
+        return inventory::inventory(rt, found);
     }
     if !is_command(behind_name(words)) {
         eprintln!(rt; "os2why: these words are no command of os2run")?;

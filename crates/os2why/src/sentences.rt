@@ -1,10 +1,10 @@
 // Refusals in sentences.
 ghost use Rattle.std.specs.Prelude.{◌≡◌, ◌≤◌, ◌++◌, IfOk, IfSome, codes, string_bytes, None};
 ghost use Rattle.o2_cli.specs.StatusTexts.{module_reason, machine_text, key_text as text_of_key};
-ghost use Rattle.os2why.specs.Sentences.{which_text, unbuilt_text, known_text, usual_text, service_of, in_table, ordinal_text, name_text, lost_text, asked_text, shim_text, target_text, taken_text, words_of, sentence_of};
-ghost use Rattle.os2why.specs.Sentences.{form_text, limits_text, machine_words, machine_sentence, module_text, cause_text};
+ghost use Rattle.os2why.specs.Sentences.{which_text, unbuilt_text, known_text, usual_text, service_of, ordinal_text, name_text, lost_text, shim_text, target_text, taken_text, words_of, asks_system, gift_text, beside_text, sentence_of};
+ghost use Rattle.os2why.specs.Sentences.{form_text, limits_text, machine_words, machine_sentence, place_text, head_text, module_text, cause_text};
 
-use crate::services::{call_name, is_system, service_called, service_of};
+use crate::services::{call_name, in_table, is_system, service_called, service_of};
 use o2_base::{Bytes, Key, MachineFault, ModuleFault, SERVICE_COUNT, Which, is_built};
 use o2_open::OpenFault;
 use o2_tool::Shown;
@@ -87,23 +87,6 @@ fn usual_sentence(alloc: Global, name: &[u8], ordinal: u16) -> Result<String, Al
             format!(in alloc;
                 "it imports {name}.{ordinal}, and this machine has no call of that ordinal"
             )
-        }
-    }
-}
-
-/// The number of a service, where it is one.
-fn in_table(listed: Option<u16>) -> Option<u16>
-    ensures within { IfSome result (λ n. (1 ≤ n) × (n ≤ SERVICE_COUNT)) }
-    ensures exact { result ≡ in_table listed }
-{
-    match listed {
-        None => None,
-        Some(number) => {
-            if number >= 1 && number <= SERVICE_COUNT {
-                Some(number)
-            } else {
-                None
-            }
         }
     }
 }
@@ -219,6 +202,46 @@ fn reason(fault: &ModuleFault) -> &'static str
     }
 }
 
+/// Whether an import of DOSCALLS is refused.
+fn asks_system(fault: &ModuleFault) -> bool
+    ensures { result ≡ asks_system fault.now }
+{
+    match fault {
+        ModuleFault::NoOrdinal(name, _) => is_system(name.as_slice()),
+        ModuleFault::NoName(name, _) => is_system(name.as_slice()),
+        _ => false,
+    }
+}
+
+/// What is told of an import of DOSCALLS: a library may give it, or the one that the machine file names hasn't it.
+fn gift_text(alloc: Global, shim: &Option<Bytes>) -> Result<String, AllocError>
+    ensures { IfOk result (λ s. string_bytes s ≡ gift_text shim.now) }
+{
+    match shim {
+        None => {
+            format!(in alloc; ". A library that answers for DOSCALLS (the key `shim`) may give it")
+        }
+        Some(name) => {
+            format!(in alloc; ", and the shim {} has none either", Shown(name.as_slice()))
+        }
+    }
+}
+
+/// What is told of a refusal beside its sentence.
+fn beside_text(
+    alloc: Global,
+    fault: &ModuleFault,
+    shim: &Option<Bytes>,
+) -> Result<String, AllocError>
+    ensures { IfOk result (λ s. string_bytes s ≡ beside_text shim.now fault.now) }
+{
+    if asks_system(fault) {
+        gift_text(alloc, shim)
+    } else {
+        Ok(String::new(alloc))
+    }
+}
+
 /// Why a module is refused: the reason's number, and a sentence with every field of the refusal.
 #[tactic(auto, using(std::proofs::Common::append_assoc))]
 fn sentence(
@@ -226,12 +249,14 @@ fn sentence(
     fault: &ModuleFault,
     asked: bool,
     listed: Option<u16>,
+    shim: &Option<Bytes>,
 ) -> Result<String, AllocError>
-    ensures { IfOk result (λ s. string_bytes s ≡ sentence_of asked listed fault.now) }
+    ensures { IfOk result (λ s. string_bytes s ≡ sentence_of asked listed shim.now fault.now) }
 {
     let number = reason(fault);
     let why = words(alloc, fault, asked, listed)?;
-    let text = format!(in alloc; "reason {number}: {why}")?;
+    let beside = beside_text(alloc, fault, shim)?;
+    let text = format!(in alloc; "reason {number}: {why}{beside}")?;
     Ok(text)
 }
 
@@ -425,37 +450,50 @@ fn machine_words(alloc: Global, fault: MachineFault) -> Result<String, AllocErro
     }
 }
 
-/// What is refused where no module's file is: a process, or the key `shim`.
-fn asked_text(fault: &ModuleFault) -> &'static str
-    ensures { result.now ≡ asked_text fault.now }
+/// What is refused: the module in a file, or a process whose module no file has.
+fn place_text(alloc: Global, name: &Bytes, asked: bool) -> Result<String, AllocError>
+    ensures { IfOk result (λ s. string_bytes s ≡ place_text asked name.now) }
+{
+    if asked {
+        format!(in alloc; "a process has no module")
+    } else {
+        format!(in alloc; "the module in {} is refused", Shown(name.as_slice()))
+    }
+}
+
+/// What is refused: the key `shim`, or else a module or a process.
+fn head_text(
+    alloc: Global,
+    name: &Bytes,
+    fault: &ModuleFault,
+    asked: bool,
+) -> Result<String, AllocError>
+    ensures { IfOk result (λ s. string_bytes s ≡ head_text asked name.now fault.now) }
 {
     match fault {
-        ModuleFault::NoShim(_) => "the key `shim` names no listed library",
-        _ => "a process has no module",
+        ModuleFault::NoShim(_) => format!(in alloc; "the key `shim` names no listed library"),
+        _ => place_text(alloc, name, asked),
     }
 }
 
 /// Why a module doesn't open, with the file that it is in. `asked` says that a process asks for it, and no file has it; the machine
-/// file has the service `listed` under an ordinal that isn't there.
+/// file has the service `listed` under an ordinal that isn't there, and names the library `shim`.
+#[tactic(auto, using(std::proofs::Common::append_assoc))]
 fn module_text(
     alloc: Global,
     name: &Bytes,
     fault: &ModuleFault,
     asked: bool,
     listed: Option<u16>,
+    shim: &Option<Bytes>,
 ) -> Result<String, AllocError>
-    ensures { IfOk result (λ s. string_bytes s ≡ module_text asked listed name.now fault.now) }
+    ensures { IfOk result
+        (λ s. string_bytes s ≡ module_text asked listed shim.now name.now fault.now) }
 {
-    let why = sentence(alloc, fault, asked, listed)?;
-    let file = Shown(name.as_slice());
-    if asked {
-        let head = asked_text(fault);
-        let text = format!(in alloc; "{head}\n  {why}")?;
-        Ok(text)
-    } else {
-        let text = format!(in alloc; "the module in {file} is refused\n  {why}")?;
-        Ok(text)
-    }
+    let why = sentence(alloc, fault, asked, listed, shim)?;
+    let head = head_text(alloc, name, fault, asked)?;
+    let text = format!(in alloc; "{head}\n  {why}")?;
+    Ok(text)
 }
 
 /// Why a command isn't opened, as `verdict` says it.
@@ -464,8 +502,9 @@ fn cause(
     fault: &OpenFault,
     asked: bool,
     listed: Option<u16>,
+    shim: &Option<Bytes>,
 ) -> Result<String, AllocError>
-    ensures { IfOk result (λ s. string_bytes s ≡ cause_text asked listed fault.now) }
+    ensures { IfOk result (λ s. string_bytes s ≡ cause_text asked listed shim.now fault.now) }
 {
     match fault {
         OpenFault::NoFile(name) => format!(in alloc; "there is no file {}", Shown(name.as_slice())),
@@ -474,30 +513,31 @@ fn cause(
             let text = format!(in alloc; "the machine file is refused\n  {why}")?;
             Ok(text)
         }
-        OpenFault::BadModule(name, fault) => module_text(alloc, name, fault, asked, listed),
+        OpenFault::BadModule(name, fault) => module_text(alloc, name, fault, asked, listed, shim),
         OpenFault::FileFault => format!(in alloc; "a file can't be read"),
         OpenFault::NoMemory => format!(in alloc; "there is no memory for it"),
     }
 }
 
 /// What a command comes to: that it opens, or why not. `asked` says of a module that isn't there that a process asks for it, and not a
-/// module; `listed` is the service that the machine file has under an ordinal that isn't there.
+/// module; `listed` is the service that the machine file has under an ordinal that isn't there, and `shim` the library that it names.
 pub fn verdict(
     alloc: Global,
     refusal: Option<&OpenFault>,
     asked: bool,
     listed: Option<u16>,
+    shim: &Option<Bytes>,
 ) -> Result<String, AllocError>
     // "it opens" exactly where there is no refusal
     ensures opens { IfOk result (λ s. refusal.entry ≡ None → string_bytes s ≡ codes "it opens") }
     // and else the cause, with each name and number of the refusal
     ensures refused { IfOk result (λ s. IfSome refusal.entry (λ fault.
-        string_bytes s ≡ codes "it isn't opened: " ++ cause_text asked listed fault.now)) }
+        string_bytes s ≡ codes "it isn't opened: " ++ cause_text asked listed shim.now fault.now)) }
 {
     match refusal {
         None => format!(in alloc; "it opens"),
         Some(fault) => {
-            let why = cause(alloc, fault, asked, listed)?;
+            let why = cause(alloc, fault, asked, listed, shim)?;
             let text = format!(in alloc; "it isn't opened: {why}")?;
             Ok(text)
         }

@@ -1,8 +1,8 @@
 // The calls of DOSCALLS, by their ordinals and by their names.
 ghost use Rattle.std.specs.Prelude.{◌≡◌, ◌≤◌, IfSome};
-ghost use Rattle.o2_dynlink.specs.Imports.{service_called};
+ghost use Rattle.o2_dynlink.specs.Imports.{service_called, service_with};
 ghost use Rattle.o2_dynlink.specs.Listed.{is_doscalls};
-ghost use Rattle.os2why.specs.Sentences.{call_name, service_of};
+ghost use Rattle.os2why.specs.Sentences.{call_name, in_table, service_of};
 
 use o2_base::{SERVICE_COUNT, service_at};
 use o2_ne::is_same_name;
@@ -27,6 +27,33 @@ pub fn service_of(ordinal: u16) -> Option<u16>
         }
     }
     None
+}
+
+/// The service that has an ordinal among these.
+pub fn service_in(ordinals: &[(u16, u16)], ordinal: u16) -> Option<u16>
+    ensures { result ≡ service_with ordinals.now ordinal }
+{
+    match ordinals.iter().find(|p| p.1 == ordinal) {
+        Some(pair) => Some(pair.0),
+        None => None,
+    }
+}
+
+/// The number of a service, where it is one.
+pub fn in_table(listed: Option<u16>) -> Option<u16>
+    ensures within { IfSome result (λ n. (1 ≤ n) × (n ≤ SERVICE_COUNT)) }
+    ensures exact { result ≡ in_table listed }
+{
+    match listed {
+        None => None,
+        Some(number) => {
+            if number >= 1 && number <= SERVICE_COUNT {
+                Some(number)
+            } else {
+                None
+            }
+        }
+    }
 }
 
 /// The service of a name, with ASCII letters folded as the linking folds them.
