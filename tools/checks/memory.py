@@ -7,6 +7,8 @@
     calls      the same of programs that make, free, lock and size segments and runs of them (tools/lib/calls_at_random.py).
     sharing    the same of two to eight programs that share segments, too: by name, by gift, and by asking for a selector. What each holds is
                computed from the report by tools/reach.py, and must be what it holds here, and what the programs see of it by LAR.
+    heaps      the same of two processes that share a segment and call on a heap in it (tools/lib/heaps_at_random.py), where no unit may be
+               taken twice without being given back in between; and a heap of 8,191 free blocks.
     examples   each example in the least memory in which it isn't stopped, which must write what it writes in an ample one, and in 16
                bytes less, which must write a front of that.
     rows       the same of the programs of the table of commands that a proved program takes (tools/lib/row_programs.py), with what the table says of them.
@@ -21,6 +23,7 @@ import random
 import re
 import shutil
 import signal
+import struct
 import subprocess
 import sys
 import time
@@ -33,6 +36,7 @@ import ne
 import reach
 import row_programs
 from calls_at_random import Callers, Sharer
+from heaps_at_random import Heaper
 
 LEAST, MOST = 4096, 16_777_216
 AMPLE = 1_048_576
@@ -275,6 +279,13 @@ class Sharing(Calling):
     FEWEST, MOST, KIND = 2, 8, Sharer
 
 
+class Heaping(Calling):
+    """Processes that keep a heap in a segment which they share. `goes_well` tells that no unit was taken twice without being given back in between."""
+
+    FEWEST, MOST, KIND = 2, 2, Heaper
+    goes_well = True
+
+
 def tail(status):
     return "all ended\n" if status == 0 else "".join(LINES[status])
 
@@ -346,6 +357,8 @@ def at_random(kind=Machine, count=200):
         title = f"program {k} of SEED={seed}"
         for memory in sizes_for(dice, machine):
             texts = in_memory(title, machine, memory)
+        if isinstance(machine, Heaping):
+            wants(f"{title}: what is taken", machine.goes_well, "a unit is taken twice")
         # (the last memory is the largest, which has the room of each step)
         if isinstance(machine, Sharing):
             as_reached(title, machine, *texts)
@@ -617,13 +630,107 @@ def full_run():
     wants("a run of all shared selectors", made == (0, b"", "\n".join(lines) + "\nall ended\n"), made[2][-200:])
 
 
+# A heap of 65,532 bytes is taken in blocks of four until there is none, and every second one is given back: then it has 8,191 free blocks. Behind
+# that it is asked for more than any has, blocks are taken and joined, and the whole segment is written to the console.
+BLOCKS = """module BLOCKS
+stack 512
+start 1:0000
+segment 1 code
+0000  68 1F 00 6A 01 6A 00 9A FF FF 00 00  @0008 far DOSCALLS.146
+000C  68 1F 00 1E 6A 00 6A 04 9A FF FF 00 00 85 C0 74 EF  @0015 far DOSCALLS.147
+001D  BE 08 00
+0020  68 1F 00 56 6A 04 9A FF FF 00 00 83 C6 08 73 F0  @0027 far DOSCALLS.148
+0030  68 1F 00 1E 6A 00 6A 08 9A FF FF 00 00  @0039 far DOSCALLS.147
+003D  68 1F 00 1E 6A 00 6A 04 9A FF FF 00 00  @0046 far DOSCALLS.147
+004A  68 1F 00 68 F4 FF 6A 04 9A FF FF 00 00  @0053 far DOSCALLS.148
+0057  68 1F 00 1E 6A 00 6A 0C 9A FF FF 00 00  @0060 far DOSCALLS.147
+0064  68 1F 00 6A 0C 6A 08 9A FF FF 00 00  @006C far DOSCALLS.148
+0070  6A 01 68 1F 00 6A 00 68 FC FF 1E 6A 00 9A FF FF 00 00  @007E far DOSCALLS.138
+0082  6A 01 6A 00 9A FF FF 00 00  @0087 far DOSCALLS.5
+segment 2 data auto size=16
+segment 3 data size=65532
+"""
+BLOCKS_ROOM = whole(0x8B) + whole(16 + 512) + 65536
+
+
+def many_blocks():
+    """The console and the report of that program, by sums: each block of four bytes is the front of the one free block, whose words stay in it."""
+    heap, lines = bytearray(65532), ["call DosSubSet 001F 0001 0000 = 0"]
+    for offset in range(8, 65532, 4):
+        lines.append(f"call DosSubAlloc 001F 0017:0000 0004 = 0 {offset:04X}")
+        struct.pack_into("<2H", heap, offset, 0, 65532 - offset)
+    lines.append("call DosSubAlloc 001F 0017:0000 0004 = 311")
+    for offset in range(8, 65532, 8):
+        lines.append(f"call DosSubFree 001F {offset:04X} 0004 = 0")
+        struct.pack_into("<2H", heap, offset, (offset + 8) % 65536, 4)
+    struct.pack_into("<4H", heap, 0, 0x4253, 65532, 8, 0)
+    # no block has eight bytes; the lowest has four; the two last ones are joined by what lies between, and taken; 000C joins nothing but 0010
+    lines += ["call DosSubAlloc 001F 0017:0000 0008 = 311", "call DosSubAlloc 001F 0017:0000 0004 = 0 0008"]
+    lines += ["call DosSubFree 001F FFF4 0004 = 0", "call DosSubAlloc 001F 0017:0000 000C = 0 FFF0", "call DosSubFree 001F 000C 0008 = 312"]
+    struct.pack_into("<H", heap, 4, 0x10)
+    struct.pack_into("<2H", heap, 0xFFF0, 0, 12)
+    struct.pack_into("<H", heap, 0xFFE8, 0)
+    lines += ["call DosWrite 0001 001F:0000 FFFC 0017:0000 = 0 FFFC", "call DosExit 0001 0000", "end exit 0"]
+    opening = ["start BLOCKS"] + [f"hold {8 * index + 7:04X} by load" for index in range(1, 5)]
+    return bytes(heap), "".join(f"1 {line}\n" for line in opening + lines) + "all ended\n"
+
+
+# A heap is made in a segment of 20,000 bytes: one that can only be read, and one that can be written, too.
+MADE = """module MADE
+stack 512
+start 1:0000
+segment 1 code
+0000  68 {:02X} 00 6A 01 6A 40 9A FF FF 00 00  @0008 far DOSCALLS.146
+000C  6A 01 6A 00 9A FF FF 00 00  @0011 far DOSCALLS.5
+segment 2 data auto size=16
+segment 3 data readonly size=20000
+segment 4 data size=20000
+"""
+
+
+def in_need(selector, error, memories):
+    """A step needs the whole segment of its heap, 20,560 bytes with the code and the stack, and nothing of one in which no heap may lie."""
+    with open("made.exe", "wb") as file:
+        file.write(ne.Listing(MADE.format(selector)).file())
+    opening = ["start MADE"] + [f"hold {8 * index + 7:04X} by load" for index in range(1, 6)]
+    lines = [f"call DosSubSet {selector:04X} 0001 0040 = {error}", "call DosExit 0001 0000", "end exit 0"]
+    for memory, is_enough in memories.items():
+        with open("made.toml", "w") as file:
+            file.write(f"memory = {memory}\n" + EXE + 'modules = ["made.exe"]\n[[process]]\nmodule = "MADE"\n')
+        report = "".join(f"1 {line}\n" for line in opening + (lines if is_enough else []))
+        wanted = (0, b"", report + tail(0)) if is_enough else (8, b"", report + tail(8))
+        made = run(["run", "made.toml"])
+        wants(f"a heap in {selector:04X}, in a memory of {memory}", made == wanted, made)
+
+
+def heaps():
+    """Heaps at random that two processes share; what a heap counts in need; and one of 8,191 free blocks, in the memory that holds what each of its
+    steps needs, and in more."""
+    at_random(Heaping, 40)
+    in_need(0x1F, 315, {LEAST: True, AMPLE: True})
+    in_need(0x27, 0, {LEAST: False, 20544: False, 20560: True, AMPLE: True})
+    with open("blocks.exe", "wb") as file:
+        file.write(ne.Listing(BLOCKS).file())
+    console, report = many_blocks()
+    for memory in (BLOCKS_ROOM - 16, BLOCKS_ROOM, AMPLE):
+        with open("blocks.toml", "w") as file:
+            file.write(f"memory = {memory}\n" + EXE + 'modules = ["blocks.exe"]\n[[process]]\nmodule = "BLOCKS"\n')
+        made = run(["run", "blocks.toml"])
+        if memory < BLOCKS_ROOM:
+            opening = "".join(report.splitlines(True)[:5])
+            wants("a heap that is larger than the memory", made == (8, b"", opening + tail(8)), (made[0], made[2][-200:]))
+        else:
+            different = [pair for pair in zip(made[2].splitlines(), report.splitlines()) if pair[0] != pair[1]][:2]
+            wants(f"a heap of 8,191 free blocks in {memory}", made == (0, console, report), (made[0], made[1] == console, different, made[2][-80:]))
+
+
 def every_size():
     global is_every_size
     is_every_size = True
 
 
-PARTS = {"random": at_random, "calls": lambda: at_random(Calling, 100), "sharing": lambda: at_random(Sharing, 100), "examples": examples, "rows": rows,
-         "full": full_run, "swap": swap_file}
+PARTS = {"random": at_random, "calls": lambda: at_random(Calling, 100), "sharing": lambda: at_random(Sharing, 100), "heaps": heaps, "examples": examples,
+         "rows": rows, "full": full_run, "swap": swap_file}
 EVERY_SIZE = "run the programs at random in each memory from their room to 1 MiB in steps of 4,096 bytes, too: some 100,000 runs"
 
 if __name__ == "__main__":

@@ -34,6 +34,8 @@ class Segment:
         """Some bytes, or so many zeros."""
         self.bytes, self.flags, self.is_code = bytearray(content), flags, is_code
         self.lock = 1 if flags & 4 else 0
+        # which units of a heap in it are taken, where that is known
+        self.taken = None
 
 
 class Hold:

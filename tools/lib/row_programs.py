@@ -10,6 +10,7 @@ HEADINGS = (
     "calls over an input",
     "instructions",
     "calls on segments",
+    "calls on heaps inside a segment",
     "calls by which processes share segments",
     "calls on huge allocations",
     "memories that are too small, or just large enough",
