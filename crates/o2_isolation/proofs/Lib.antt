@@ -1,1 +1,3 @@
+pub mod OwnRuns
+pub mod SharedRuns
 pub mod Linked

@@ -20,6 +20,8 @@ use Rattle.o2_load.proofs.Fits.{linked_starts_fit}
 use Rattle.o2_load.proofs.Overs.{linked_starts_over}
 use Rattle.o2_alone.specs.Isolation.{IsOver, RunsAlone}
 use Rattle.o2_alone.proofs.OpenedAlike.{isolation}
+use Rattle.o2_isolation.specs.Strangers.{IsStranger}
+use Rattle.o2_isolation.proofs.SharedRuns.{keeps, opened_unshared}
 
 -- a module is that of its own place
 own_place : (images : ImageList) (place : ℕ) → loaded images (loaded images place).place ≡ loaded images place
@@ -48,3 +50,16 @@ pub linked_isolation : (s : Setting) (script : List Word) (input : List ℕ) (ms
     → RunsAlone s (library_ranges l) input number start w
 linked_isolation s script input ms c l w all fits e o =
     isolation (loaded l.images) s (library_ranges l) script input (starts_of l 1 c.process) w (linked_apart ms c l all e) (linked_starts_fit ms c l all e) (linked_starts_over ms c l all fits e) (all_over l 1 c.process) o
+
+-- of a process's calls of DosReallocHuge nothing is asked
+pub linked_strangers : (s : Setting) (script : List Word) (input : List ℕ) (ms : List Parts) (c : Conf) (l : LinkedParts) (w : World) → All IsRunnable ms → All HasEnvironment c.process → linked_of ms c ≡ Ok l
+    → opening_of s (library_ranges l) script input (starts_of l 1 c.process) ≡ Ok w
+    → (number : ℕ) (start : Start) → 0 < number → slice_get (starts_of l 1 c.process) (number - 1) ≡ Some start
+    → IsStranger s (library_ranges l) input number start w
+linked_strangers s script input ms c l w all fits e o number start some at =
+    let run = linked_isolation s script input ms c l w all fits e o number start some at in
+    record {
+      alone = run.world;
+      begins = run.begins;
+      isolated = λ k stays. run.isolated k (keeps number s w run.world (opened_unshared s (library_ranges l) script input (starts_of l 1 c.process) w o number) k stays);
+    }

@@ -4,4 +4,6 @@
 
 mod laws;
 
-pub use laws::linked_processes_do_not_feel_one_another;
+pub use laws::{
+    a_process_apart_resizes_its_own_runs_alone, linked_processes_do_not_feel_one_another,
+};

@@ -1,0 +1,10 @@
+pub mod Readings
+pub mod Modules
+pub mod Settings
+pub mod Sessions
+pub mod Counts
+pub mod Commands
+pub mod OnlyModules
+pub mod OnlyLinked
+pub mod FirstAlone
+pub mod Texts

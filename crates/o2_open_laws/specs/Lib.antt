@@ -1,0 +1,4 @@
+pub mod Files
+pub mod FirstOnly
+pub mod Commands
+pub mod Texts
