@@ -1,8 +1,10 @@
-//! Tests of `o2_conf` and `o2_gen`: machine files with what they say or are refused for, and the executable and the setting of a bench.
+//! Tests of `o2_conf`, `o2_gen` and `o2_sched`: machine files with what they say or are refused for, the executable and the setting of a
+//! bench, and whose steps come by a machine file.
 #![tactic(auto)]
 
 mod bench;
 mod conf;
+mod sched;
 
 use std::io;
 use test_fixtures::tell;
@@ -30,6 +32,7 @@ fn main(rt: HostRuntime) -> io::Result<()> {
             "its setting",
             bench::the_setting_is_that_of_a_machine_file(alloc),
         ),
+        ("whose steps come", sched::whose_steps_come(alloc)),
     ];
     for (name, answer) in answers {
         tell(&rt, name, answer)?;

@@ -4,7 +4,8 @@ ghost use Rattle.std.specs.Prelude.{◌≡◌, ◌<◌, ◌≤◌, length};
 use o2_compact::{close_up, open_gap};
 use o2_phys::Phys;
 use o2_place::Places;
-use std::test::Fail;
+use std::alloc::Global;
+use test_fixtures::{Wrong, want};
 
 fn size() -> u32
     ensures { result ≡ 32 }
@@ -108,13 +109,15 @@ fn opens(phys: &mut Phys, places: &mut Places) -> bool
     behind && alone && widened
 }
 
-#[test]
-fn ranges_close_up_and_open(rt: HostRuntime) -> Result<(), Fail> {
-    let mut phys = Phys::new(rt.alloc(), size())?;
-    let mut places = Places::new(rt.alloc(), 6, size())?;
+pub fn ranges_close_up_and_open(alloc: Global) -> Result<(), Wrong> {
+    let mut phys = Phys::new(alloc, size())?;
+    let mut places = Places::new(alloc, 6, size())?;
     lay_out(&mut phys, &mut places);
     let moved = closes(&mut phys, &mut places) && opens(&mut phys, &mut places);
     let bytes = (phys.bytes(0, 3), phys.bytes(19, 6));
-    assert!(rt; moved && bytes == (b"abc".as_slice(), b"fghide".as_slice()));
+    want(
+        moved && bytes == (b"abc".as_slice(), b"fghide".as_slice()),
+        0,
+    )?;
     Ok(())
 }

@@ -1,17 +1,17 @@
 ghost use Rattle.std.specs.Prelude.{◌≡◌};
 
 use o2_phys::Phys;
-use std::test::Fail;
+use std::alloc::Global;
+use test_fixtures::{Wrong, want};
 
-#[test]
-fn each_call_once(rt: HostRuntime) -> Result<(), Fail> {
-    let mut phys = Phys::new(rt.alloc(), small_size())?;
+pub fn each_call_once(alloc: Global) -> Result<(), Wrong> {
+    let mut phys = Phys::new(alloc, small_size())?;
     phys.write(1, b"abcdef");
     phys.clear(2, 2);
     for byte in phys.bytes_mut(5, 2).iter_mut() {
         *byte = b'z';
     }
-    assert_eq!(rt; phys.bytes(0, 8), b"\0a\0\0dzz\0".as_slice());
+    want(phys.bytes(0, 8) == b"\0a\0\0dzz\0".as_slice(), 0)?;
     Ok(())
 }
 
@@ -34,15 +34,14 @@ static SLIDES: [(u32, u32, u32, &[u8; 8]); 8] = [
     (5, 2, 0, b"abcdefgh"),
 ];
 
-#[test]
-fn slides_both_ways(rt: HostRuntime) -> Result<(), Fail> {
+pub fn slides_both_ways(alloc: Global) -> Result<(), Wrong> {
     for (from, to, len, left) in &SLIDES {
-        let mut phys = Phys::new(rt.alloc(), small_size())?;
+        let mut phys = Phys::new(alloc, small_size())?;
         phys.write(0, b"abcdefgh");
         if *from <= 8 - *len && *to <= 8 - *len {
             phys.slide(*from, *to, *len);
         }
-        assert_eq!(rt; phys.bytes(0, 8), left.as_slice());
+        want(phys.bytes(0, 8) == left.as_slice(), 0)?;
     }
     Ok(())
 }

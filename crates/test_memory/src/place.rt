@@ -2,7 +2,8 @@
 ghost use Rattle.std.specs.Prelude.{◌≡◌, ◌<◌, length};
 
 use o2_place::{Clock, Places};
-use std::test::Fail;
+use std::alloc::Global;
+use test_fixtures::{Wrong, want};
 
 // Takes the range of an id away where the length is 0, and otherwise gives the id the lowest one of this length. The
 // answer is its place.
@@ -57,15 +58,17 @@ fn are_left(places: &Places) -> bool {
         .all(|(k, range)| places.range(k) == *range)
 }
 
-#[test]
-fn ranges_come_and_go(rt: HostRuntime) -> Result<(), Fail> {
-    let mut places = Places::new(rt.alloc(), 8, 32)?;
+pub fn ranges_come_and_go(alloc: Global) -> Result<(), Wrong> {
+    let mut places = Places::new(alloc, 8, 32)?;
     for (id, len, at) in &STEPS {
         if *id < 8 {
-            assert!(rt; step(&mut places, *id, *len) == *at, "{id} {len}");
+            want(step(&mut places, *id, *len) == *at, 0)?;
         }
     }
-    assert!(rt; places.count() == 4 && places.free_bytes() == 0 && are_left(&places));
+    want(
+        places.count() == 4 && places.free_bytes() == 0 && are_left(&places),
+        1,
+    )?;
     Ok(())
 }
 
@@ -82,31 +85,32 @@ fn victim_of(clock: &mut Clock, used: &[u32], keep: &[u32]) -> Option<u32>
     clock.victim(keep)
 }
 
-#[test]
-fn unused_ids_go_first(rt: HostRuntime) -> Result<(), Fail> {
-    let mut clock = Clock::new(rt.alloc(), 6)?;
+pub fn unused_ids_go_first(alloc: Global) -> Result<(), Wrong> {
+    let mut clock = Clock::new(alloc, 6)?;
     let first = [
         victim_of(&mut clock, &[1, 3, 5], &[1]),
         victim_of(&mut clock, &[3], &[1]),
         victim_of(&mut clock, &[5], &[1]),
     ];
-    assert!(rt; first == [Some(3), Some(5), Some(3)]);
+    want(first == [Some(3), Some(5), Some(3)], 0)?;
     clock.leave(3);
     let second = [clock.victim(&[1]), clock.victim(&[5, 1])];
-    assert!(rt; second == [Some(5), None]);
+    want(second == [Some(5), None], 1)?;
     clock.leave(5);
     let last = clock.victim(&[]);
     clock.leave(1);
-    assert!(rt; last == Some(1) && clock.victim(&[]).is_none());
+    want(last == Some(1) && clock.victim(&[]).is_none(), 2)?;
     Ok(())
 }
 
-#[test]
-fn used_ids_go_in_turn(rt: HostRuntime) -> Result<(), Fail> {
-    let mut clock = Clock::new(rt.alloc(), 6)?;
+pub fn used_ids_go_in_turn(alloc: Global) -> Result<(), Wrong> {
+    let mut clock = Clock::new(alloc, 6)?;
     let first = victim_of(&mut clock, &[0, 1, 2], &[]);
     let second = victim_of(&mut clock, &[0, 1, 2], &[]);
     clock.leave(1);
-    assert!(rt; [first, second, clock.victim(&[])] == [Some(0), Some(1), Some(2)]);
+    want(
+        [first, second, clock.victim(&[])] == [Some(0), Some(1), Some(2)],
+        0,
+    )?;
     Ok(())
 }

@@ -2,7 +2,8 @@
 ghost use Rattle.std.specs.Prelude.{◌≡◌};
 
 use o2_swapmap::SwapMap;
-use std::test::Fail;
+use std::alloc::Global;
+use test_fixtures::{Wrong, want};
 
 // Five of eight blocks are taken, and four more aren't there.
 fn takes(map: &mut SwapMap) -> bool
@@ -50,10 +51,9 @@ fn gives_all(map: &mut SwapMap) -> bool
     kept == 5 && took == Some(()) && map.count(1) == 3
 }
 
-#[test]
-fn blocks_come_and_go(rt: HostRuntime) -> Result<(), Fail> {
-    let mut map = SwapMap::new(rt.alloc(), 8, 3)?;
+pub fn blocks_come_and_go(alloc: Global) -> Result<(), Wrong> {
+    let mut map = SwapMap::new(alloc, 8, 3)?;
     let first = takes(&mut map) && lists(&map);
-    assert!(rt; first && gives(&mut map) && gives_all(&mut map));
+    want(first && gives(&mut map) && gives_all(&mut map), 0)?;
     Ok(())
 }

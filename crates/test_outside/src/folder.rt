@@ -3,8 +3,8 @@
 use crate::blocks::{gives, is_lost, write};
 use o2_base::{Bytes, NoMemory};
 use o2_outer::{Dev, Fetch, FileSwap, Files, FolderFiles, SwapDevice};
-use std::test::Fail;
 use std::{fs, io};
+use test_fixtures::{Wrong, want};
 
 /// What a fetch came to, in a word.
 fn word_of(fetch: &Fetch) -> &'static str {
@@ -30,17 +30,15 @@ fn fetched(rt: &HostRuntime, name: &[u8], most: u32) -> Result<&'static str, NoM
     Ok(word_of(&fetch))
 }
 
-#[test]
-fn a_file_of_the_folder(rt: HostRuntime) -> Result<(), Fail> {
-    fs::write(&rt, "fetched.bin", "abc")?;
+pub fn a_file_of_the_folder(rt: &HostRuntime) -> Result<(), Wrong> {
+    fs::write(rt, "fetched.bin", "abc")?;
     let words = [
-        fetched(&rt, b"fetched.bin", 3)?,
-        fetched(&rt, b"fetched.bin", 2)?,
-        fetched(&rt, b"not_there.bin", 3)?,
+        fetched(rt, b"fetched.bin", 3)?,
+        fetched(rt, b"fetched.bin", 2)?,
+        fetched(rt, b"not_there.bin", 3)?,
     ];
-    fs::remove_file(&rt, "fetched.bin")?;
-    assert_eq!(rt; words, ["got", "too long", "no file"]);
-    Ok(())
+    fs::remove_file(rt, "fetched.bin")?;
+    want(words == ["got", "too long", "no file"], 0)
 }
 
 /// The name of the swap device's file.
@@ -72,16 +70,7 @@ fn is_hindered<S: SwapDevice>(rt: &HostRuntime, swap: &mut S) -> io::Result<bool
     Ok(fails)
 }
 
-/// What somebody else does to the file of a device in use, and whether a block that was in it is lost by that.
-static CHANGES: [(Change, bool); 5] = [
-    (Change::Cut, true),
-    (Change::CutAndGrown, true),
-    (Change::Overwritten, true),
-    (Change::Replaced, false),
-    (Change::Removed, false),
-];
-
-/// One of these. A file that is replaced or removed stays as it was for who has it open.
+/// What somebody else does to the file of a device in use. A file that is replaced or removed stays as it was for who has it open.
 #[derive(Clone, Copy)]
 enum Change {
     Cut,
@@ -133,12 +122,23 @@ fn is_changed<S: SwapDevice>(
     Ok(is_written && tells)
 }
 
-/// What is tried of a device over the folder.
+/// What is tried of a device over the folder, and whether a block that was in its file is lost by a change.
+#[derive(Clone, Copy)]
 enum Trial {
     Cut,
     Hindered,
     Changed(Change, bool),
 }
+
+static TRIALS: [Trial; 7] = [
+    Trial::Cut,
+    Trial::Hindered,
+    Trial::Changed(Change::Cut, true),
+    Trial::Changed(Change::CutAndGrown, true),
+    Trial::Changed(Change::Overwritten, true),
+    Trial::Changed(Change::Replaced, false),
+    Trial::Changed(Change::Removed, false),
+];
 
 /// Whether it comes to what it must.
 fn passes(rt: &HostRuntime, trial: Trial) -> io::Result<bool> {
@@ -150,12 +150,9 @@ fn passes(rt: &HostRuntime, trial: Trial) -> io::Result<bool> {
     }
 }
 
-#[test]
-fn a_swap_device_in_a_file_of_the_folder(rt: HostRuntime) -> Result<(), Fail> {
-    let passed = [passes(&rt, Trial::Cut)?, passes(&rt, Trial::Hindered)?];
-    assert_eq!(rt; passed, [true, true]);
-    for (what, is_told) in CHANGES.iter() {
-        assert!(rt; passes(&rt, Trial::Changed(*what, *is_told))?, "{is_told}");
+pub fn a_swap_device_in_a_file_of_the_folder(rt: &HostRuntime) -> Result<(), Wrong> {
+    for (row, trial) in TRIALS.iter().enumerate() {
+        want(passes(rt, *trial)?, row)?;
     }
     Ok(())
 }

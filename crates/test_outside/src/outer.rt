@@ -1,11 +1,12 @@
 // The forms in memory and the adapters over the standard library's readers and writers.
 
+use crate::blocks::are_all;
 use o2_base::NoMemory;
 use o2_outer::{Dev, MemSwap, Put, Sink, Source, StreamSink, StreamSource, SwapDevice, Took};
 use std::alloc::Global;
 use std::io;
 use std::io::{Read, Write};
-use std::test::Fail;
+use test_fixtures::{Wrong, want};
 
 /// A writer of five bytes that takes one at a time, fails at one write, and takes nothing at all once it is full.
 #[derive(Drop)]
@@ -81,12 +82,9 @@ fn has_taken(fails: usize, front: &str, both: &str) -> bool {
     }
 }
 
-#[test]
-fn a_sink_writes_byte_by_byte_and_holds_what_was_taken_before_it_fails(
-    rt: HostRuntime,
-) -> Result<(), Fail> {
-    for (fails, front, both) in FRONTS.iter() {
-        assert!(rt; has_taken(*fails, front, both), "{fails}");
+pub fn a_sink_writes_byte_by_byte_and_holds_what_was_taken_before_it_fails() -> Result<(), Wrong> {
+    for (row, (fails, front, both)) in FRONTS.iter().enumerate() {
+        want(has_taken(*fails, front, both), row)?;
     }
     Ok(())
 }
@@ -108,16 +106,6 @@ static CALLS: [(Act, u32, u8, Dev); 7] = [
     (Act::Write, 0, 7, Dev::Failed),
     (Act::Write, 0, 7, Dev::Done),
 ];
-
-/// Whether all of some bytes are this one.
-fn are_all(bytes: &[u8], byte: u8) -> bool {
-    for other in bytes {
-        if *other != byte {
-            return false;
-        }
-    }
-    true
-}
 
 /// Whether a read comes to this, and where it is done gives a block of this byte.
 fn is_read(swap: &mut MemSwap, block: u32, byte: u8, answer: Dev) -> bool {
@@ -146,12 +134,10 @@ fn is_as_told(swap: &mut MemSwap) -> bool {
     (swap.writes(), swap.faults()) == (3, 2)
 }
 
-#[test]
-fn a_device_fails_at_its_calls_and_at_one_write(rt: HostRuntime) -> Result<(), Fail> {
-    let mut swap = MemSwap::new(rt.alloc(), 2, vec![in rt.alloc(); 3]?)?;
+pub fn a_device_fails_at_its_calls_and_at_one_write(alloc: Global) -> Result<(), Wrong> {
+    let mut swap = MemSwap::new(alloc, 2, vec![in alloc; 3]?)?;
     swap.fail_write(3);
-    assert!(rt; is_as_told(&mut swap));
-    Ok(())
+    want(is_as_told(&mut swap), 0)
 }
 
 /// A reader of `abcdefg` that gives one byte at a time, fails at one read, and gives nothing at another.
@@ -204,9 +190,15 @@ fn gives(source: &mut StreamSource<Halting>, into: &mut [u8], bytes: &[u8]) -> b
     takes == [Took::Done(bytes.len()), Took::Done(0)] && into.starts_with(bytes)
 }
 
+/// Whether a source whose reader gives a byte and then fails gives that byte at once, and fails where it's asked for more.
+fn gives_at_once(source: &mut StreamSource<Halting>) -> bool {
+    let mut one = [0u8; 1];
+    source.take(&mut one) == Took::Done(1) && one == *b"a" && source.take(&mut one) == Took::Failed
+}
+
 /// Whether a source over a reader that fails at this read loses nothing then, and where it fails at none ends early at its end alone:
-/// behind all bytes, or behind two where the third read gives nothing.
-fn is_right(alloc: Global, fails: usize, pauses: usize) -> Result<bool, NoMemory> {
+/// behind all bytes, or behind two where the third read gives nothing. One that is asked for a byte reads no more than that.
+fn is_right(alloc: Global, fails: usize, pauses: usize, is_one: bool) -> Result<bool, NoMemory> {
     let reader = Halting {
         at: 0,
         reads: 0,
@@ -214,22 +206,31 @@ fn is_right(alloc: Global, fails: usize, pauses: usize) -> Result<bool, NoMemory
         pauses,
     };
     let mut source = StreamSource::new(alloc, reader)?;
-    Ok(match (fails, pauses) {
-        (0, 0) => gives(&mut source, &mut [0u8; 9], b"abcdefg"),
-        (0, _) => gives(&mut source, &mut [0u8; 5], b"ab"),
+    Ok(match (fails, pauses, is_one) {
+        (_, _, true) => gives_at_once(&mut source),
+        (0, 0, _) => gives(&mut source, &mut [0u8; 9], b"abcdefg"),
+        (0, _, _) => gives(&mut source, &mut [0u8; 5], b"ab"),
         _ => gives_later(&mut source),
     })
 }
 
-/// Reads that fail, and reads that give nothing.
-static HALTS: [(usize, usize); 7] = [(1, 0), (2, 0), (3, 0), (4, 0), (5, 0), (0, 0), (0, 3)];
+/// Reads that fail, and reads that give nothing; and whether a byte alone is asked for.
+static HALTS: [(usize, usize, bool); 8] = [
+    (1, 0, false),
+    (2, 0, false),
+    (3, 0, false),
+    (4, 0, false),
+    (5, 0, false),
+    (0, 0, false),
+    (0, 3, false),
+    (2, 0, true),
+];
 
-#[test]
-fn a_source_gives_later_what_was_before_an_error_and_reads_no_more_behind_its_end(
-    rt: HostRuntime,
-) -> Result<(), Fail> {
-    for (fails, pauses) in HALTS.iter() {
-        assert!(rt; is_right(rt.alloc(), *fails, *pauses)?, "{fails} {pauses}");
+pub fn a_source_gives_later_what_was_before_an_error_and_reads_no_more(
+    alloc: Global,
+) -> Result<(), Wrong> {
+    for (row, (fails, pauses, is_one)) in HALTS.iter().enumerate() {
+        want(is_right(alloc, *fails, *pauses, *is_one)?, row)?;
     }
     Ok(())
 }

@@ -5,7 +5,7 @@ use crate::system::System;
 use o2_base::{Bytes, NoMemory};
 use o2_outer::{Dev, Fetch, FileSwap, Files, FolderFiles, SwapDevice};
 use std::alloc::Global;
-use std::test::Fail;
+use test_fixtures::{Wrong, want};
 
 /// Whether blocks that are written one after another and apart come back, each from its place.
 fn gives_each<S: SwapDevice>(swap: &mut S) -> bool {
@@ -51,12 +51,9 @@ static TRIALS: [(usize, bool); 7] = [
     (512, true),
 ];
 
-#[test]
-fn a_write_that_fails_and_then_has_room_loses_nothing_that_waits(
-    rt: HostRuntime,
-) -> Result<(), Fail> {
-    for (fails, is_read) in TRIALS.iter() {
-        assert!(rt; is_right(*fails, *is_read), "{fails} {is_read}");
+pub fn a_write_that_fails_and_then_has_room_loses_nothing_that_waits() -> Result<(), Wrong> {
+    for (row, (fails, is_read)) in TRIALS.iter().enumerate() {
+        want(is_right(*fails, *is_read), row)?;
     }
     Ok(())
 }
@@ -72,10 +69,7 @@ fn is_refused(alloc: Global, may_read: bool) -> Result<bool, NoMemory> {
     })
 }
 
-#[test]
-fn a_file_that_may_not_be_read_is_a_fault(rt: HostRuntime) -> Result<(), Fail> {
-    let alloc = rt.alloc();
+pub fn a_file_that_may_not_be_read_is_a_fault(alloc: Global) -> Result<(), Wrong> {
     let refused = [is_refused(alloc, false)?, is_refused(alloc, true)?];
-    assert_eq!(rt; refused, [true, true]);
-    Ok(())
+    want(refused == [true, true], 0)
 }

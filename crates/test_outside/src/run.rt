@@ -9,7 +9,7 @@ use o2_base::{Bytes, NoMemory};
 use o2_outer::{Dev, MemSink, MemSource, Sink, Source, SwapDevice, Took};
 use o2_run::{Fault, Steps, Stop, Turn, put_stop, run};
 use std::alloc::Global;
-use std::test::Fail;
+use test_fixtures::{Wrong, want, want_line};
 
 /// A device of one block that always fails.
 #[derive(Drop)]
@@ -204,11 +204,10 @@ static STOPS: [(Stop, &str); 4] = [
     (Stop::SwapFault, "stop swap fault\n"),
 ];
 
-#[test]
-fn each_stop(rt: HostRuntime) -> Result<(), Fail> {
-    for (why, line) in STOPS.iter() {
-        assert!(rt; puts(rt.alloc(), *why, NEVER, line)?, "{line}");
-        assert!(rt; puts(rt.alloc(), *why, (1, 4), "stop")?, "a part of {line}");
+pub fn each_stop(alloc: Global) -> Result<(), Wrong> {
+    for (row, (why, line)) in STOPS.iter().enumerate() {
+        want_line(puts(alloc, *why, NEVER, line)?, line)?;
+        want(puts(alloc, *why, (1, 4), "stop")?, row)?;
     }
     Ok(())
 }

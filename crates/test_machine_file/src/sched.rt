@@ -2,8 +2,8 @@
 use o2_base::NoMemory;
 use o2_conf::Conf;
 use o2_sched::{Pick, Sched};
-use std::alloc::{AllocError, Global};
-use std::test::Fail;
+use std::alloc::Global;
+use test_fixtures::{Wrong, want, want_line};
 
 /// A machine file without its budget, script and processes.
 static HEAD: &str = "memory = 4096\nswap = 0\nsegments = 1\nmodules = ['m']\n";
@@ -78,12 +78,12 @@ fn lengths(text: &str) -> [u32; 3] {
     left
 }
 
-/// A pick as the table has it.
-fn word(alloc: Global, pick: Pick) -> Result<String, AllocError> {
+/// Whether a pick is what the table has.
+fn is_pick(pick: Pick, wanted: &str) -> bool {
     match pick {
-        Pick::Step(pid) => pid.to_string(alloc),
-        Pick::AllEnded => String::from_str(alloc, "ended"),
-        Pick::BudgetSpent => String::from_str(alloc, "spent"),
+        Pick::Step(pid) => wanted.parse::<u16>().unwrap_or(0) == pid,
+        Pick::AllEnded => wanted == "ended",
+        Pick::BudgetSpent => wanted == "spent",
     }
 }
 
@@ -92,8 +92,7 @@ fn are_picked(alloc: Global, rest: &str, steps: &str, picks: &str) -> Result<boo
     let mut sched = sched_of(alloc, rest, steps)?;
     let mut left = lengths(steps);
     for wanted in picks.split_ascii_whitespace() {
-        let pick = step(&mut sched, &mut left);
-        if word(alloc, pick)?.as_str() != wanted {
+        if !is_pick(step(&mut sched, &mut left), wanted) {
             return Ok(false);
         }
     }
@@ -107,15 +106,14 @@ fn parts(line: &str) -> Option<(&str, &str, &str)> {
     Some((rest, steps, picks))
 }
 
-#[test]
-fn whose_steps_come(rt: HostRuntime) -> Result<(), Fail> {
+pub fn whose_steps_come(alloc: Global) -> Result<(), Wrong> {
     let mut count = 0u32;
     for line in CASES.lines() {
         if let Some((rest, steps, picks)) = parts(line) {
-            assert!(rt; are_picked(rt.alloc(), rest, steps, picks)?, "of {line}");
+            want_line(are_picked(alloc, rest, steps, picks)?, line)?;
             count = count.saturating_add(1);
         }
     }
-    assert!(rt; count == 9);
+    want(count == 9, 1)?;
     Ok(())
 }
