@@ -6,6 +6,7 @@ command's. Times are read once a second from /proc, so a check that ends sooner 
 import argparse
 import os
 import re
+import shutil
 import subprocess
 import sys
 import threading
@@ -79,8 +80,13 @@ def main():
     parser = command.parser("tools/gate_times.py", __doc__)
     parser.add_argument("command", nargs=argparse.REMAINDER, metavar="COMMAND ..", help="`rt ci` where there is none, as: tools/gate_times.py rt ci o2_base")
     words = parser.parse_args().command
+    if not words and not shutil.which("rt"):
+        return "tools/gate_times.py: it wants the command rt of the Rattle toolchain on the PATH"
     begun, over, spent = time.monotonic(), threading.Event(), {}
-    run = subprocess.Popen(words or ["rt", "ci"])
+    try:
+        run = subprocess.Popen(words or ["rt", "ci"])
+    except OSError as why:
+        return f"tools/gate_times.py: {words[0]} can't be run: {why.strerror}"
     watcher = threading.Thread(target=watch, args=(run.pid, over, spent))
     watcher.start()
     try:

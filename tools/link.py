@@ -434,7 +434,7 @@ def main():
     words.add_argument("--stack", type=command.number(0, 65535), metavar="BYTES", help="the stack, in place of the segments of that kind")
     words.add_argument("--heap", type=command.number(0, 65535), default=0, metavar="BYTES", help="the local heap, 0 where it isn't given")
     words.add_argument("objects", nargs="+", metavar="OBJECT", help="object files")
-    given = words.parse_args()
+    given = command.given(words)
     module = given.module or os.path.splitext(os.path.basename(given.out))[0].upper()
     try:
         must(module.isascii() and module.isprintable() and " " not in module, f"{module!r} is no name of a module: give one by -m")

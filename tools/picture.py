@@ -248,7 +248,7 @@ def main():
     parser.add_argument("kind", metavar="KIND", choices=[*DRAWN, "pages"], help=", ".join([*DRAWN, "pages"]))
     parser.add_argument("file", metavar="FILE", nargs="?", help="what is drawn, or `write` after `pages`")
     parser.add_argument("--svg", action="store_true", help="lanes or memory as SVG, on the standard output")
-    given = parser.parse_args()
+    given = command.given(parser)
     if given.svg and given.kind not in AS_SVG:
         parser.error(f"{given.kind} isn't drawn as SVG")
     if given.kind == "pages":

@@ -97,7 +97,7 @@ def main():
     parser.add_argument("arguments", metavar="ARGUMENT", nargs="*", help="the program's command line; after -- also words that begin with a dash")
     parser.add_argument("--budget", type=command.number(0, 4_000_000_000), metavar="N", help=f"how many steps are taken at most, {BUDGET} where it isn't given")
     parser.add_argument("--memory", type=command.number(4096, 16_777_216), metavar="N", help=f"bytes of memory, {MEMORY} where it isn't given")
-    given = parser.parse_args()
+    given = command.given(parser)
     is_machine = given.file.endswith(".toml")
     if not given.file or given.file.startswith("-"):
         parser.error("a FILE has a name that doesn't begin with a dash")

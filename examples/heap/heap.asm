@@ -6,7 +6,7 @@
 cpu 286
 bits 16
 
-; the first word of the data has the segment's selector, and those behind it the blocks' offsets
+; the first word of the data has the segment's selector, and those after it the blocks' offsets
 ;@ segment 1 code
 section s1 vstart=0
         push 64

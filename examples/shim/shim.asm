@@ -159,7 +159,7 @@ setvec:
         retf 10
         align 64, int3
 
-; DosGetEnv(selector, offset): the environment has the selector behind the program's last segment, and the command line stands behind
+; DosGetEnv(selector, offset): the environment has the selector after the program's last segment, and the command line stands after
 ; its empty string. It is found at the first call, as the last of the selectors that follow one another; so that call has to come before the
 ; program makes segments.
 getenv:

@@ -77,7 +77,7 @@ section s1 vstart=0
         push 0
         call 0:0FFFFh                   ;@+1 far VIOCALLS.19 VioWrtTTY
 ; the name of the program, which begins the command line
-        les di, [command]               ; its offset, and the selector behind it
+        les di, [command]               ; its offset, and the selector after it
         mov bx, di
         xor al, al
         mov cx, 0FFFFh

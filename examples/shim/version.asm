@@ -1,4 +1,4 @@
-; version: asks for the version, and ends with its number behind the point.
+; version: asks for the version, and ends with its number after the point.
 
 ;@ module VERSION
 ;@ stack 512

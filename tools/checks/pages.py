@@ -26,8 +26,8 @@ SKIPPED = re.compile(r"\bfpc\b|fpcsrc|cd /tmp/compiler|msg2inc|\./look\b|\.ci/ru
 PASCAL = "/tmp/compiler/ppcross8086"
 COMMAND = re.compile(r"(?:cd|nasm|cat|cp|for|printf|mkdir|touch|sed|rm) |(?:cmp|grep) (?!byte|word)[-./]|/tmp/compiler/|tools/|\./|\.\./")
 INLINE = re.compile(r"`((?:cd \S+ && )?(?:(?:\.\./)+|\./)?(?:(?<=/)os2\w+|tools/\w+\.py) [^`]*)`")
-# A line of a page is run for this long at most, in seconds.
-LONGEST = 120
+# A line of a page is run for this long at most, in seconds, which is enough for a loop over all programs on a busy machine.
+LONGEST = 300
 seen = {"compared": 0, "run": 0, "text": 0, "rows": 0, "pictures": 0}
 TOP = None
 

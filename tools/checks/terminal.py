@@ -85,6 +85,18 @@ def after(seconds):
     return lambda _: time.monotonic() - begun > seconds
 
 
+def quiet(seconds):
+    """Whether the terminal has shown nothing more for so long. Where a line were written over each second it never holds."""
+    last = [None, 0]
+
+    def holds(shown):
+        if shown != last[0]:
+            last[:] = shown, time.monotonic()
+        return time.monotonic() - last[1] > seconds
+
+    return holds
+
+
 def plain(shown):
     """What a terminal showed, without the lines that were taken away again, and how many they were. A busy machine may show one where a
     program takes long to begin or to end."""
@@ -139,6 +151,10 @@ def wrapper():
     wants("a run that ends", got[1].startswith("hello1 start") or "hello" in got[1] and got[1].endswith("all ended\r\n0\r\n"), got)
     got = at_terminal("copy/os2run exe nothere.exe >console 2>report; echo $?")
     wants("a status", plain(got[1])[0] == f"{subprocess.run([program(), 'exe', 'nothere.exe'], capture_output=True).returncode}\r\n", got)
+    for words, why in (("exe busy.toml", "exe busy.toml"), ("check hello.exe", "run hello.exe")):
+        got = at_terminal(f"copy/os2run {words} >console 2>report; echo $?")
+        status = subprocess.run([program(), *words.split()], capture_output=True).returncode
+        wants(f"{words} is refused", status in (3, 4) and plain(got[1])[0] == f"os2run: copy/os2why {why} says why\r\n{status}\r\n", (status, got))
     got = at_terminal("rm report; copy/os2run run busy.toml 2>report & until grep -qs DosWrite report; do sleep 0.1; done; kill -TERM $!; wait $!; echo $?")
     wants("a signal", got[1] == "hi\r\n143\r\n", got)
     # without a terminal nothing but console and report
@@ -160,7 +176,7 @@ def tool():
     far, busy = shows("5 lines of the report, processes alive: 1"), f"exec {sys.executable} {run} busy.toml"
     interrupted("tools/run.py: progress", "tools/run.py", f"{busy} >console", 130, progress("tools/run.py"), far, "busy.toml.report")
     wants("tools/run.py: the console", content("console") == "hi\n", content("console"))
-    interrupted("tools/run.py: the console on the terminal", "tools/run.py", busy, 130, r"hi\r\n" + progress("tools/run.py"), far, "busy.toml.report")
+    interrupted("tools/run.py: the console on the terminal", "tools/run.py", busy, 130, rf"({progress('tools/run.py')}\r\x1b\[K)?hi\r\n" + progress("tools/run.py"), far, "busy.toml.report")
     waited = after(4)
     got = at_terminal(f"{busy} 2>errors", [(lambda shown: waited(shown) and reported("hi", "busy.toml.report")(shown), b"\x03")])
     wants("tools/run.py: without the terminal", got == (130, "hi\r\n^C") and content("errors") == "", (got, content("errors")))
@@ -169,13 +185,12 @@ def tool():
 
 
 def ends_of_input():
-    """Ctrl-D ends the input. While the program waits for it, the terminal shows nothing else."""
+    """Ctrl-D ends the input. While the program waits for it, the terminal shows nothing more, or no key would be pressed."""
     run = os.path.join(TOOLS, "run.py")
     for title, words, wanted in (("./os2run", "copy/os2run exe echo.exe 2>report", "abc\r\nABC\r\n"), ("tools/run.py", f"{sys.executable} {run} echo.exe", "abc\r\nABC\r\n"),
                                  ("./os2run, the console in a file", "copy/os2run exe echo.exe >console 2>report", "abc\r\n")):
-        got = at_terminal(f"exec {words}", [(after(6), b"abc\n"), (after(7), b"\x04")])
-        shown, lines = plain(got[1])
-        wants(f"{title}: Ctrl-D", (got[0], shown) == (0, wanted) and lines < 5, got)
+        got = at_terminal(f"exec {words}", [(quiet(3), b"abc\n"), (quiet(3), b"\x04")])
+        wants(f"{title}: Ctrl-D", (got[0], plain(got[1])[0]) == (0, wanted), got)
     wants("the console in a file", content("console") == "ABC\n", content("console"))
 
 

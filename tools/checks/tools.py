@@ -315,6 +315,7 @@ def run():
             file.write(f"budget = {budget}\n{front}" + '[[process]]\nmodule = "MINE"\n' * 2)
         case(title, ["a.toml"], status, "1:3\n2:6\n" if status == 1 else "")
     case("another budget for a machine file", ["a.toml", "--budget", "1000"], 1, "1:3\n2:6\n")
+    case("a flag between the words", ["args.exe", "--budget", "1000", "one", "two"], 0, "ARGS\none two\n", "all ended\n")
     case("a budget of a program", ["hello.exe", "--budget", "3"], 75, "", "budget spent\n")
     case("a small memory", ["hello.exe", "--memory", "4096"], 0, "hello", "all ended\n")
     case("arguments", ["args.exe", "one", "two", 'th"ree\\'], 0, 'ARGS\none two th"ree\\\n', "all ended\n")
@@ -473,7 +474,7 @@ def picture():
 
     layout = os.path.join(EXAMPLES, "memory", "rounds.layout")
     for words in (["lanes", "two.report"], ["memory", layout]):
-        run = subprocess.run([os.path.join(TOOLS, "picture.py"), *words, "--svg"], capture_output=True, text=True)
+        run = subprocess.run([os.path.join(TOOLS, "picture.py"), words[0], "--svg", words[1]], capture_output=True, text=True)
         root = ElementTree.fromstring(run.stdout)
         texts = [it.text for it in root.iter("{http://www.w3.org/2000/svg}text")]
         wants(f"{words[0]} as SVG", run.returncode == 0 and root[0].text == texts[0] and os.path.basename(words[1]) in texts[0], run)
@@ -533,6 +534,10 @@ def manners():
         run = subprocess.run([path, "--help"], cwd="manners", stdout=writer, stderr=subprocess.PIPE, text=True, stdin=subprocess.DEVNULL)
         os.close(writer)
         wants(f"{tool} --help, where nobody reads", run.stderr == "", run)
+    # a folder without programs as the PATH
+    for words in (["planted.py", "o2_place"], ["gate_times.py"], ["../look", "exe", "hello.exe"]):
+        run = subprocess.run([sys.executable, os.path.join(TOOLS, words[0]), *words[1:]], cwd="manners", capture_output=True, text=True, stdin=subprocess.DEVNULL, env={**os.environ, "PATH": os.path.abspath("manners")})
+        wants(f"{words[0]} without the toolchain", run.returncode == 1 and run.stderr.endswith(": it wants the command rt of the Rattle toolchain on the PATH\n") and run.stderr.count("\n") == 1, run)
     wants("no tool leaves a file", not os.listdir("manners"), os.listdir("manners"))
     for words in (["calls.py"], ["reach.py", os.path.join(EXAMPLES, "two.report")], ["picture.py", "lanes", os.path.join(EXAMPLES, "two.report")]):
         reader, writer = os.pipe()

@@ -17,6 +17,11 @@ def parser(name, doc, **more):
     return argparse.ArgumentParser(prog=name, description=doc, formatter_class=argparse.RawDescriptionHelpFormatter, allow_abbrev=False, **more)
 
 
+def given(parser):
+    """The words of this run, as `parser` reads them: flags stand before, between or after the others. After -- all words are others."""
+    return parser.parse_args() if "--" in sys.argv else parser.parse_intermixed_args()
+
+
 def number(least, most):
     """A word that is a decimal number from `least` to `most`."""
 

@@ -75,6 +75,14 @@ tell_run() {
     done
 }
 
+# Says who tells why a machine file or an executable was refused. The words are those of the program.
+tell_why() {
+    [ "$name" = os2run ] || return 0
+    verb=run
+    [ "$1" != exe ] || verb=exe
+    printf '%s: %sos2why %s %s says why\n' "$name" "${0%"$name"}" "$verb" "$2" >/dev/tty
+}
+
 # Runs the program with these words, and ends as it does. Where Ctrl-C ended it the terminal shows where the report ends.
 run_watched() {
     began=$(date +%s)
@@ -96,6 +104,9 @@ run_watched() {
         kill $teller 2>/dev/null
         wait $teller 2>/dev/null
     fi
+    case $status in
+        3 | 4) tell_why "$@" ;;
+    esac
     [ $status -eq 130 ] || exit $status
     read_report
     where=

@@ -24,10 +24,10 @@ TIME = 1_767_225_600
 TOOLS = ("run.py", "ne.py", "link.py", "imports.py", "picture.py", "reach.py", "calls.py", "vectors.py", "completion.bash", "lib/command.py", "lib/watched.py", "lib/calls.toml", "lib/instructions.py", "lib/core_image.py", "make/layouts.py", "make/limits.py")
 README = """os2run runs programs of OS/2 1.x's 16-bit protected mode that use no screen, on Linux on x86-64 with glibc 2.34 or later.
 
-    sha256sum -c SHA256SUMS                        all files are as they were packed
-    ./os2run exe examples/hello.exe 2>report       the console on the terminal, the report in a file
-    man -l man/man1/os2run.1                       the words, the report and the statuses
-    man -l man/man5/os2run.5                       the machine file
+    sha256sum -c SHA256SUMS                                   all files are as they were packed
+    ./os2run exe examples/five-minutes/first.exe 2>report     the console on the terminal, the report in a file
+    man -l man/man1/os2run.1                                  the words, the report and the statuses
+    man -l man/man5/os2run.5                                  the machine file
 
 Beside it stand five programs, each with a manual page:
 
@@ -49,11 +49,12 @@ The tools want Python 3.11 or later; each has --help:
     tools/reach.py           tells from a report who holds what
     tools/picture.py         draws a report
     tools/vectors.py         makes test vectors of all opcodes, with the flags that are undefined
+    tools/completion.bash    completes words in bash: source tools/completion.bash
 
-docs/guide has eleven lessons. docs/machine.md has the rest, and what to do when it says no.
+docs/guide/README.md leads through the lessons. docs/machine.md has the rest, and what to do when it says no.
 
-The programs were built from proved sources, whose docs/proved.md says what is proved. They are free under either of LICENSE-MIT and
-LICENSE-APACHE, as you choose.
+The programs were built from proved sources. What is proved stands in a page of these sources, docs/proved.md, which isn't in this package.
+The programs are free under either of LICENSE-MIT and LICENSE-APACHE, as you choose.
 """
 
 
