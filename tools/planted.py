@@ -154,8 +154,7 @@ class Check:
 
     def named(self, function, options):
         """The one of these paths that is the function's."""
-        wanted = path_of(function)
-        return next((it for it in options if it.split("::", 1)[-1] == wanted), next((it for it in options if it.endswith("::" + wanted)), options[0]))
+        return next(iter(called(options, function)), options[0])
 
 
 def path_of(function):
@@ -163,6 +162,17 @@ def path_of(function):
     file, owner, name = function
     module = file[len("src/") : -len(".rt")].replace("/", "::").removesuffix("::mod")
     return "::".join(part for part in ("" if module in ("lib", "main") else module, owner, name) if part)
+
+
+def called(paths, function):
+    """Those of the paths, which begin with the crate, that name a function. A method's has the module in which its type is declared, which may be
+    another than the one in which it stands."""
+    wanted, tail = path_of(function), "::" + "::".join(part for part in function[1:] if part)
+    return (
+        [it for it in paths if it.split("::", 1)[-1] == wanted]
+        or [it for it in paths if it.endswith("::" + wanted)]
+        or [it for it in paths if function[1] and it.endswith(tail)]
+    )
 
 
 def parted(said):
@@ -184,8 +194,8 @@ def parted(said):
 def judged(said, function, is_alone):
     """What a check says of a function: a kind, and why; None where it says nothing."""
     verdicts, open_goals, errors = parted(said)
-    wanted = path_of(function)
-    mine = [it for it in verdicts if it[0].split("::", 1)[1] == wanted] or [it for it in verdicts if it[0].endswith("::" + wanted)]
+    names = called([it[0] for it in verdicts], function)
+    mine = [it for it in verdicts if it[0] in names]
     if not mine:
         return None
     for symbol, words in mine:
