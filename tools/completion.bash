@@ -34,6 +34,10 @@ _os2run() {
     esac
     if [ "$program" = os2trace ] && [ "$at" -gt 1 ] && [ "${word:0:1}" = - ]; then
         COMPREPLY=($(compgen -W "--process --from --to --selector --writes --json --help" -- "$word"))
+    elif [ "$program-${words[0]}" = os2why-imports ] && [ "$at" -gt 1 ] && [ "${word:0:1}" = - ]; then
+        COMPREPLY=($(compgen -W "--machine --help" -- "$word"))
+    elif [ "$program" = os2why ] && [ "$at" -gt 2 ] && [[ ${words[at - 2]} = -m || ${words[at - 2]} = --machine ]]; then
+        _os2run_files toml "$word"
     elif [ "${word:0:1}" = - ]; then
         COMPREPLY=($(compgen -W "$flags" -- "$word"))
     elif [ -n "$verbs" ] && [ "$at" -eq 1 ]; then

@@ -498,6 +498,7 @@ COMPLETED = (
     (["os2run", ""], {"exe", "run", "check", "bench", "dump"}), (["./os2run", "exe", "hell"], {"hello.exe"}), (["os2run", "run", "t"], {"template.toml", "two.toml"}),
     (["os2run", "exe", "t"], set()), (["os2run", "exe", "mem"], {"memory/"}), (["os2why", "im"], {"imports"}), (["/usr/bin/os2why", "imports", "hello.exe", "ech"], {"echo.exe"}),
     (["os2trace", "exe", "--f"], {"--from"}), (["os2core", "show", "sm"], {"small.core"}), (["os2list", "--h"], {"--help"}), (["look", "os2w"], {"os2why"}),
+    (["os2why", "imports", "--m"], {"--machine"}), (["os2why", "imports", "--machine", "templ"], {"template.toml"}),
     (["./look", "os2why", "r"], {"run"}), (["./look", "exe", "hell"], {"hello.exe"}), (["look", "os2list", "hell"], {"hello.exe"}),
 )
 
