@@ -105,6 +105,8 @@ def plain(shown):
 
 def prepare():
     """The files that are run, and a copy of the wrapper whose program is the present one."""
+    # (what a shell begins in the background ignores Ctrl-C, and so would all that is tried here)
+    signal.signal(signal.SIGINT, signal.default_int_handler)
     with open("busy.exe", "wb") as file:
         file.write(ne.Listing(BUSY).file())
     with open("busy.toml", "w") as file:
