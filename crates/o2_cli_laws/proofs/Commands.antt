@@ -1,43 +1,32 @@
--- What a command runs is what it opened, started.
-use Rattle.std.proofs.Common.{◌≡◌, refl, sym, ◌∙◌, ap, ℕ, List}
-use Rattle.std.specs.Prelude.{Result, Ok, Err}
-use Rattle.o2_base.specs.declared.faults.ModuleFault.{ModuleFault}
+-- Each process of what a command opens has a run alone.
+use Rattle.std.proofs.Common.{◌≡◌, subst, ℕ, ◌-◌, List, arith}
+use Rattle.std.specs.Prelude.{IfOk, Result, Ok}
 use Rattle.o2_words.specs.declared.words.Verb.{Verb}
 use Rattle.o2_world.specs.World.{World}
+use Rattle.o2_load.specs.Loads.{library_ranges, starts_of}
 use Rattle.o2_machine.specs.Begins.{opening, setting_of}
+use Rattle.o2_isolation.proofs.Linked.{linked_strangers}
 use Rattle.o2_open.specs.declared.fault.OpenFault.{OpenFault}
 use Rattle.o2_open.specs.declared.session.Session.{Session}
-use Rattle.o2_open.specs.Loads.{◌>>=◌, Contents, loaded, under}
-use Rattle.o2_open_laws.specs.Commands.{IsProcess}
-use Rattle.o2_open_laws.specs.Files.{HoldBytes}
-use Rattle.o2_open_laws.proofs.Commands.{run_alone}
-use Rattle.o2_cli.specs.Opening.{Opened, opened, refusal, started, with_setting}
-use Rattle.o2_cli_laws.specs.Commands.{RunsAsAlone}
+use Rattle.o2_open.specs.Loads.{Contents, loaded}
+use Rattle.o2_cli_laws.specs.Files.{HoldBytes}
+use Rattle.o2_cli_laws.specs.Commands.{HasRunAlone, IsProcess}
+use Rattle.o2_cli_laws.proofs.Counts.{opened_count, start_at}
+use Rattle.o2_cli_laws.proofs.Sessions.{IsGood, loaded_good}
 
-record HasStarted (s : Session) (input : List ℕ) (o : Opened) : Type 0 where
-  opens : opening s.linked s.conf input ≡ Ok o.world
-  setting : o.setting ≡ setting_of s.conf
+pub good_at : (contents : Contents) (verb : Verb) (name : List ℕ) (s : Session) → HoldBytes contents → loaded verb contents name ≡ Ok s → IsGood s
+good_at contents verb name s bytes e = subst (λ (r : Result Session OpenFault). IfOk r IsGood) e (loaded_good contents bytes verb name)
 
-has_started : (s : Session) (input : List ℕ) (o : Opened) → started s input ≡ Ok o → HasStarted s input o
-unfolding started
-has_started s input o = go (opening s.linked s.conf input) refl
-  where
-    opened_in : Result Opened OpenFault → Opened
-    opened_in (Ok x) = x
-    opened_in (Err fault) = o
-
-    go : (r : Result World (ℕ × ModuleFault)) → opening s.linked s.conf input ≡ r → under (refusal s) r >>= with_setting s ≡ Ok o → HasStarted s input o
-    go (Err fault) is e = absurd (cc)
-    go (Ok w) is e =
-        let same = ap opened_in e in
-        record { opens = is ∙ ap (λ (x : Opened). Ok x.world) same; setting = sym (ap (λ (x : Opened). x.setting) same) }
-
-pub runs_as_alone : (verb : Verb) (contents : Contents) (name input : List ℕ) (start : Opened) → HoldBytes contents → opened verb contents name input ≡ Ok start
-    → (number : ℕ) → IsProcess start.world number → RunsAsAlone verb contents name input start number
-runs_as_alone verb contents name input start bytes e number is = go (loaded verb contents name) refl e
-  where
-    go : (r : Result Session OpenFault) → loaded verb contents name ≡ r → r >>= (λ (s : Session). started s input) ≡ Ok start → RunsAsAlone verb contents name input start number
-    go (Err fault) at f = absurd (cc)
-    go (Ok s) at f =
-        let begun = has_started s input start f in
-        record { session = s; opens = at; setting = begun.setting; runs = run_alone verb contents name input s start.world bytes at begun.opens number is }
+pub run_alone : (verb : Verb) (contents : Contents) (name input : List ℕ) (s : Session) (w : World) → HoldBytes contents
+    → loaded verb contents name ≡ Ok s → opening s.linked s.conf input ≡ Ok w → (number : ℕ) → IsProcess w number → HasRunAlone s input w number
+run_alone verb contents name input s w bytes e o number is =
+    let good = good_at contents verb name s bytes e in
+    let count = opened_count (setting_of s.conf) (library_ranges s.linked) s.conf.script input (starts_of s.linked 1 s.conf.process) w o in
+    let some = is.0 in
+    let most = is.1 in
+    let start = start_at (starts_of s.linked 1 s.conf.process) (number - 1) (omega (arith, some, most, count)) in
+    record {
+      start = start.0;
+      starts = start.1;
+      stranger = linked_strangers (setting_of s.conf) s.conf.script input good.linked.0 s.conf s.linked w good.linked.1.0 good.fits good.linked.1.1 o number start.0 is.0 start.1;
+    }

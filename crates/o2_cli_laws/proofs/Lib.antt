@@ -1,1 +1,11 @@
+pub mod Readings
+pub mod Modules
+pub mod Settings
+pub mod Sessions
+pub mod Counts
 pub mod Commands
+pub mod OnlyModules
+pub mod OnlyLinked
+pub mod FirstAlone
+pub mod Texts
+pub mod TopCall

@@ -1,1 +1,5 @@
+pub mod Files
+pub mod FirstOnly
 pub mod Commands
+pub mod Texts
+pub mod TopCall

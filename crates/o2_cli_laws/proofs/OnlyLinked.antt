@@ -15,8 +15,8 @@ use Rattle.o2_dynlink.specs.Reached.{libraries_of}
 use Rattle.o2_dynlink.specs.Selectors.{bases_of}
 use Rattle.o2_load.specs.Loads.{library_ranges, loaded, start_of}
 use Rattle.o2_world.specs.Starts.{Loaded, Start}
-use Rattle.o2_open_laws.specs.FirstOnly.{first_only}
-use Rattle.o2_open_laws.proofs.OnlyModules.{images_of, same_libraries, same_loaded, same_ranges}
+use Rattle.o2_cli_laws.specs.FirstOnly.{first_only}
+use Rattle.o2_cli_laws.proofs.OnlyModules.{images_of, same_libraries, same_loaded, same_ranges}
 
 record Comes {X F Y : Type 0} (r : Result X F) (f : X → Result Y F) (y : Y) : Type 0 where
   value : X

@@ -1,5 +1,5 @@
-use Rattle.o2_open_laws.proofs.Texts.{console_told, lines_told, stranger_tells, stranger_writes}
-use Rattle.o2_open_laws.proofs.laws.events_tell_what_a_run_writes.Goals as goal
+use Rattle.o2_cli_laws.proofs.Texts.{console_told, lines_told, stranger_tells, stranger_writes}
+use Rattle.o2_cli_laws.proofs.laws.events_tell_what_a_run_writes.Goals as goal
 
 pub returns-clause-console : goal.returns-clause-console
 returns-clause-console c = console_told

@@ -19,7 +19,7 @@ use Rattle.o2_alone.specs.Alone.{before_it, opening_alone}
 use Rattle.o2_alone.specs.Events.{Event, chosen_before, event_list, events, events_of, next_before, own_steps}
 use Rattle.o2_alone.proofs.Isolated.{step_is}
 use Rattle.o2_isolation.specs.Strangers.{IsStranger, StaysApart}
-use Rattle.o2_open_laws.specs.Texts.{lines_in, pieces_in}
+use Rattle.o2_cli_laws.specs.Texts.{lines_in, pieces_in}
 
 -- Both texts of a world.
 record AreTexts (w : World) (written : List ℕ) (told : List Line) : Type 0 where

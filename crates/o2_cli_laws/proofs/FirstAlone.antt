@@ -18,12 +18,12 @@ use Rattle.o2_isolation.proofs.Linked.{linked_strangers}
 use Rattle.o2_open.specs.declared.fault.OpenFault.{OpenFault}
 use Rattle.o2_open.specs.declared.session.Session.{Session}
 use Rattle.o2_open.specs.Loads.{◌>>=◌, Contents, link_refusal, linked_in, loaded, machine_in, modules_in, run_loaded, under}
-use Rattle.o2_open_laws.specs.Files.{HoldBytes}
-use Rattle.o2_open_laws.specs.Commands.{RunsAsOnly}
-use Rattle.o2_open_laws.specs.FirstOnly.{first_only}
-use Rattle.o2_open_laws.proofs.Commands.{good_at}
-use Rattle.o2_open_laws.proofs.OnlyLinked.{LinksFirst, links_first}
-use Rattle.o2_open_laws.proofs.Sessions.{IsGood}
+use Rattle.o2_cli_laws.specs.Files.{HoldBytes}
+use Rattle.o2_cli_laws.specs.Commands.{RunsAsOnly}
+use Rattle.o2_cli_laws.specs.FirstOnly.{first_only}
+use Rattle.o2_cli_laws.proofs.Commands.{good_at}
+use Rattle.o2_cli_laws.proofs.OnlyLinked.{LinksFirst, links_first}
+use Rattle.o2_cli_laws.proofs.Sessions.{IsGood}
 
 then_is : {X Y : Type 0} (r : Result X OpenFault) (f : X → Result Y OpenFault) (x : X) (y : Y) → r ≡ Ok x → f x ≡ Ok y → (r >>= f) ≡ Ok y
 then_is {X} {Y} r f x y is gives = ap (λ (q : Result X OpenFault). q >>= f) is ∙ gives

@@ -27,7 +27,7 @@ use Rattle.o2_image.specs.Modules.{auto_data_checks, is_writable, module_of}
 use Rattle.o2_image.specs.References.{all_references, reference_at}
 use Rattle.o2_image.specs.Records.{segment_step}
 use Rattle.o2_image.specs.Whole.{HasAutoData, IsRunnable}
-use Rattle.o2_open_laws.proofs.Readings.{Hold, any_ok, checks_ok, more_ok, ne_ok, seg_ok, then_ok}
+use Rattle.o2_cli_laws.proofs.Readings.{Hold, any_ok, checks_ok, more_ok, ne_ok, seg_ok, then_ok}
 
 abbrev pub IsByte : ℕ → Type 0
 IsByte b = b < 256

@@ -27,9 +27,9 @@ use Rattle.o2_open.specs.declared.fault.OpenFault.{OpenFault}
 use Rattle.o2_open.specs.declared.fault.OpenFault.TheVariants as open_fault
 use Rattle.o2_open.specs.declared.session.Session.{Session}
 use Rattle.o2_open.specs.Loads.{◌>>=◌, Contents, exe_loaded, found, link_refusal, linked_in, loaded, machine_in, module_in, modules_in, run_loaded, under}
-use Rattle.o2_open_laws.specs.Files.{HoldBytes}
-use Rattle.o2_open_laws.proofs.Modules.{IsByte, runnable}
-use Rattle.o2_open_laws.proofs.Settings.{HasEnvironments, bare_fits, bench_fits, setting_fits}
+use Rattle.o2_cli_laws.specs.Files.{HoldBytes}
+use Rattle.o2_cli_laws.proofs.Modules.{IsByte, runnable}
+use Rattle.o2_cli_laws.proofs.Settings.{HasEnvironments, bare_fits, bench_fits, setting_fits}
 
 then_ok : {A B : Type 0} (P : A → Type 0) (Q : B → Type 0) (r : Result A OpenFault) (k : A → Result B OpenFault) → IfOk r P → ((x : A) → P x → IfOk (k x) Q) → IfOk (r >>= k) Q
 then_ok P Q (Ok x) k h next = next x h

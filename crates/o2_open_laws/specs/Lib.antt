@@ -1,4 +1,0 @@
-pub mod Files
-pub mod FirstOnly
-pub mod Commands
-pub mod Texts
