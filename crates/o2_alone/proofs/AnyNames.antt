@@ -1,5 +1,5 @@
 -- What any step changes, by names: it sizes and locks what its process holds, and what it makes may change.
-use Rattle.std.proofs.Common.{◌≡◌, ◌⊎◌, refl, sym, subst, ℕ, ◌+◌, ◌-◌, ◌/◌, ◌==◌, ◌&&◌, ◌||◌, Bool, true, false, cond, List, [], ◌∷◌, ◌++◌, length}
+use Rattle.std.proofs.Common.{◌≡◌, ◌⊎◌, refl, sym, subst, ℕ, ◌+◌, ◌-◌, ◌/◌, ◌==◌, ◌&&◌, ◌||◌, Bool, true, false, not, cond, List, [], ◌∷◌, ◌++◌, length}
 use Rattle.std.specs.Prelude.{Option, Some, None, Result, Ok, Err, drop, is_some, nat_le, nat_lt}
 use Rattle.o2_isa.specs.declared.cpu.Stop.{Stop}
 use Rattle.o2_isa.specs.declared.cpu.Stop.TheVariants as stop
@@ -18,7 +18,7 @@ use Rattle.o2_world.proofs.SegmentMoves.{held_there}
 use Rattle.o2_world.specs.Outcomes.{CallRow, Outcome, ruled}
 use Rattle.o2_world.specs.Calls.{getting_by, giving_by, huge_reallocation_by, naming_by, rows, serviced, sharing_by}
 use Rattle.o2_world.specs.RowLaws.{EachRow, IsQuiet, changes_of}
-use Rattle.o2_world.proofs.Quiet.{changes_come, alloc_quiet, free_quiet, read_quiet, set_quiet, write_quiet}
+use Rattle.o2_world.proofs.Quiet.{changes_come, alloc_quiet, free_quiet, read_quiet, request_quiet, set_quiet, wait_quiet, write_quiet}
 use Rattle.o2_world.proofs.Serving.{by_service}
 use Rattle.o2_alone.specs.Renaming.{Asking}
 use Rattle.o2_world.specs.Effect.{has_trap_flag, answered, single_stepped, effect}
@@ -233,7 +233,7 @@ any_rows = (
                                 own _ _ _ _ huge_allocation_is (λ b a. refl),
                                 (
                                   by_its_ruling _ _ _ huge_reallocation_is,
-                                  (own _ _ _ _ shift_is (λ b a. refl), (own _ _ _ _ avail_is (λ b a. refl), (quiet _ set_quiet, (quiet _ alloc_quiet, (quiet _ free_quiet, tt))))),
+                                  (own _ _ _ _ shift_is (λ b a. refl), (own _ _ _ _ avail_is (λ b a. refl), (quiet _ set_quiet, (quiet _ alloc_quiet, (quiet _ free_quiet, (quiet _ request_quiet, (quiet _ (λ b a. refl), (quiet _ wait_quiet, (quiet _ (λ b a. refl), tt))))))))),
                                 ),
                               ),
                             ),
@@ -269,7 +269,7 @@ module _ (b : Before) where
   either_step false e f h k = k
 
   single_any : (e : Effect) → AreOfAny b e.changes → AreOfAny b (single_stepped b e).changes
-  single_any e h = either_step (has_trap_flag b.cpu.flags && is_live e.state) _ e h h
+  single_any e h = either_step (has_trap_flag b.cpu.flags && (is_live e.state && not e.waits)) _ e h h
 
   pub effect_of_any : RunsMayChange b → AreOfAny b (effect b).changes
   unfolding effect

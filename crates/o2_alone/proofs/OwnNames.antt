@@ -1,5 +1,5 @@
 -- What a step that shares no segment changes, by names: each is one that its process holds, or the next one.
-use Rattle.std.proofs.Common.{◌≡◌, ◌⊎◌, inl, inr, refl, sym, ◌∙◌, subst, ℕ, zero, suc, ◌+◌, ◌-◌, ◌<◌, ◌≤◌, ◌/◌, ◌==◌, ◌&&◌, ◌||◌, Bool, true, false, cond, List, [], ◌∷◌, ◌++◌, filter, length, arith}
+use Rattle.std.proofs.Common.{◌≡◌, ◌⊎◌, inl, inr, refl, sym, ◌∙◌, subst, ℕ, zero, suc, ◌+◌, ◌-◌, ◌<◌, ◌≤◌, ◌/◌, ◌==◌, ◌&&◌, ◌||◌, Bool, true, false, not, cond, List, [], ◌∷◌, ◌++◌, filter, length, arith}
 use Rattle.std.specs.Prelude.{Option, Some, None, Result, Ok, Err, not, map, max, drop, is_some, nat_le, nat_lt}
 use Rattle.o2_desc.specs.Bits.{is_writable}
 use Rattle.o2_isa.specs.declared.cpu.Stop.{Stop}
@@ -19,7 +19,7 @@ use Rattle.o2_world.specs.Calls.{aliasing_by, allocation_by, avail_by, freeing_b
 use Rattle.o2_world.specs.RowLaws.{EachEntry, IsQuiet, changes_of}
 use Rattle.o2_world.proofs.Serving.{by_entry}
 use Rattle.o2_world.specs.Effect.{has_trap_flag, answered, single_stepped, effect}
-use Rattle.o2_world.proofs.Quiet.{changes_come, alloc_quiet, free_quiet, read_quiet, set_quiet, write_quiet}
+use Rattle.o2_world.proofs.Quiet.{changes_come, alloc_quiet, free_quiet, read_quiet, request_quiet, set_quiet, wait_quiet, write_quiet}
 use Rattle.o2_world.specs.SharedRulings.{marks_under, shared_from}
 use Rattle.o2_world.specs.HugeRulings.{all_bytes, all_dropped, bytes_of, dropped_members, flags_in, free_run, held_in_run, huge_allocation, huge_at, huge_reallocation_of}
 use Rattle.o2_world.specs.HugeRulings.{is_first, is_huge_fault, left_in_run, new_members, other_shares, resized_members, resized_one, run_changes}
@@ -420,7 +420,7 @@ own_rows = (
                                 by_its_ruling _ _ _ _ huge_allocation_is,
                                 (
                                   by_its_ruling _ _ _ _ huge_reallocation_is,
-                                  (by_its_ruling _ _ _ _ shift_is, (by_its_ruling _ _ _ _ avail_is, (quiet _ _ set_quiet, (quiet _ _ alloc_quiet, (quiet _ _ free_quiet, tt))))),
+                                  (by_its_ruling _ _ _ _ shift_is, (by_its_ruling _ _ _ _ avail_is, (quiet _ _ set_quiet, (quiet _ _ alloc_quiet, (quiet _ _ free_quiet, (quiet _ _ request_quiet, (quiet _ _ (λ b a. refl), (quiet _ _ wait_quiet, (quiet _ _ (λ b a. refl), tt))))))))),
                                 ),
                               ),
                             ),
@@ -457,7 +457,7 @@ module _ (b : Before) where
   either_step false e f h k = k
 
   single_own : (e : Effect) → AreOfOwn b e.changes → AreOfOwn b (single_stepped b e).changes
-  single_own e h = either_step (has_trap_flag b.cpu.flags && is_live e.state) _ e h h
+  single_own e h = either_step (has_trap_flag b.cpu.flags && (is_live e.state && not e.waits)) _ e h h
 
   pub effect_of_own : RunsMayChange b → IsUnshared b (call_of b) → AreOfOwn b (effect b).changes
   unfolding effect

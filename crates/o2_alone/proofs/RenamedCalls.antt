@@ -10,7 +10,7 @@ use Rattle.o2_isa.specs.Parts.{put_part}
 use Rattle.o2_isa.specs.View.{View, Hold, bound_in, is_readable, is_writable}
 use Rattle.o2_isa.specs.Pointers.{is_passed, is_for_es, has_range, is_good, range_in, range_of, put_in, put_at_pointer}
 use Rattle.o2_world.specs.declared.types.Slot.{Slot}
-use Rattle.o2_world.specs.declared.types.Slot.TheVariants.{Word, Reads, Writes, Text, ToWord, ToLong, ToWords, Heap}
+use Rattle.o2_world.specs.declared.types.Slot.TheVariants.{Word, Long, Reads, Writes, Text, ToWord, ToLong, ToWords, Heap}
 use Rattle.o2_world.specs.World.{Line, Calls}
 use Rattle.o2_world.specs.Known.{Known}
 use Rattle.o2_world.specs.CallParts.{Before, Effect, trapped, word_of, argument, has_arguments, returned}
@@ -56,7 +56,7 @@ tested : (t : Twins) (a b : Bool) (e d x y : Effect) → b ≡ a → (a ≡ true
 tested t a b e d x y is same rest = subst (λ (c : Bool). Does t (cond a e x) (cond c d y)) (sym is) (either t a e d x y same rest)
 
 pub trapped_renamed : (t : Twins) (vector : ℕ) → Does t (trapped t.one vector) (trapped (other t) vector)
-trapped_renamed t vector = record { cpu = refl; state = refl; bytes = t.views.bytes; changes = refl; input = λ e. e; piece = refl; lines = refl }
+trapped_renamed t vector = record { cpu = refl; state = refl; bytes = t.views.bytes; changes = refl; input = λ e. e; piece = refl; lines = refl; waits = refl }
 
 word_same : (t : Twins) (i : ℕ) → word_of t.view t.one.cpu i ≡ word_of t.one.view t.one.cpu i
 word_same t i = read_renamed t.names t.one.view t.view t.views Ss ((t.one.cpu.sp + 2 * i) % 65536) WordWide
@@ -137,6 +137,7 @@ each_good t ok s offset count ps qs rest =
 pub are_good_same : (t : Twins) (ss : List Slot) (a : ℕ → ℕ) → are_good t.view (pointers_in ss t.view a) ≡ are_good t.one.view (pointers_in ss t.one.view a)
 are_good_same t [] a = refl
 are_good_same t (Word ∷ ss) a = are_good_same t ss a
+are_good_same t (Long ∷ ss) a = are_good_same t ss a
 are_good_same t (Reads ∷ ss) a = each_good t is_readable _ _ _ (pointers_in ss t.view a) (pointers_in ss t.one.view a) (are_good_same t ss a)
 are_good_same t (Writes ∷ ss) a = each_good t is_writable _ _ _ (pointers_in ss t.view a) (pointers_in ss t.one.view a) (are_good_same t ss a)
 are_good_same t (Text ∷ ss) a =
@@ -158,16 +159,20 @@ put_all_same t (p ∷ ps) (part ∷ parts) bytes others same = put_all_same t ps
 abbrev pub ComesAlike : Twins → Outcome → Outcome → Type 0
 ComesAlike t (outcome.Fails error values) q = q ≡ outcome.Fails error values
 ComesAlike t (outcome.Does d) q = (input : List ℕ) × (q ≡ outcome.Does (record d { changes = renamed_changes t.names d.changes; input = input })) × (t.input ≡ t.one.input → input ≡ d.input)
+ComesAlike t outcome.Waits q = q ≡ outcome.Waits
 ComesAlike t (outcome.Leaves action code) q = q ≡ outcome.Leaves action code
 
 come_renamed : (t : Twins) (r : CallRow) (next : ℕ) (a : ℕ → ℕ) (o q : Outcome) → OutcomeMoves t.one (returned t.one.cpu next (words_in r.slots) 0) o → ComesAlike t o q
     → Does t (come_out r t.one next a o) (come_out r (other t) next a q)
 come_renamed t r next a (outcome.Fails error values) q moves is =
     subst (λ (q : Outcome). Does t (come_out r t.one next a (outcome.Fails error values)) (come_out r (other t) next a q)) (sym is)
-    (record { cpu = refl; state = refl; bytes = t.views.bytes; changes = refl; input = λ e. e; piece = refl; lines = refl })
+    (record { cpu = refl; state = refl; bytes = t.views.bytes; changes = refl; input = λ e. e; piece = refl; lines = refl; waits = refl })
+come_renamed t r next a outcome.Waits q moves is =
+    subst (λ (q : Outcome). Does t (come_out r t.one next a outcome.Waits) (come_out r (other t) next a q)) (sym is)
+    (record { cpu = refl; state = refl; bytes = t.views.bytes; changes = refl; input = λ e. e; piece = refl; lines = refl; waits = refl })
 come_renamed t r next a (outcome.Leaves action code) q moves is =
     subst (λ (q : Outcome). Does t (come_out r t.one next a (outcome.Leaves action code)) (come_out r (other t) next a q)) (sym is)
-    (record { cpu = refl; state = refl; bytes = t.views.bytes; changes = refl; input = λ e. e; piece = refl; lines = refl })
+    (record { cpu = refl; state = refl; bytes = t.views.bytes; changes = refl; input = λ e. e; piece = refl; lines = refl; waits = refl })
 come_renamed t r next a (outcome.Does d) q moves is =
     subst (λ (q : Outcome). Does t (come_out r t.one next a (outcome.Does d)) (come_out r (other t) next a q)) (sym is.1)
     (record {
@@ -178,6 +183,7 @@ come_renamed t r next a (outcome.Does d) q moves is =
       input = is.2;
       piece = refl;
       lines = ap (λ (ls : List Line). Calls t.one.number r.name (shown_in r.slots a) 0 d.values ∷ ls) (moved_renamed t.names r.name d.changes);
+      waits = refl;
     })
 
 -- what a row goes by is alike, so it comes out alike

@@ -8,11 +8,12 @@ use Rattle.o2_world.specs.CallParts.{Before, argument, has_arguments, word_bytes
 use Rattle.o2_world.specs.Rulings.{Ruling, grants, members}
 use Rattle.o2_world.specs.HugeRulings.{segments_of}
 use Rattle.o2_world.specs.HeapRulings.{HeapRuling, giving_back, setting_up, taking}
+use Rattle.o2_world.specs.SemRulings.{SemRuling, Becomes, Refuses, Waiting, number_in, requesting, waiting_for}
 use Rattle.o2_world.specs.Slots.{are_good, may_have_heap, pointers_in, words_in}
 use Rattle.o2_world.specs.Outcomes as outcome
 use Rattle.o2_world.specs.Outcomes.{CallRow, Outcome, by_ruling, row, ruled}
 use Rattle.o2_world.specs.Calls.{aliasing_by, allocation_by, avail_by, exiting, freeing_by, huge_allocation_by, huge_reallocation_by, is_console, locking_by, read_slots, reading, reallocation_by}
-use Rattle.o2_world.specs.Calls.{by_heap, heap_bytes, heap_most, on_heap}
+use Rattle.o2_world.specs.Calls.{by_heap, by_semaphore, clearing_semaphore, heap_bytes, heap_most, nothing_written, number_written, on_heap, requesting_semaphore, semaphore_at, setting_semaphore, timeout_in, waiting_for_semaphore}
 use Rattle.o2_world.specs.Calls.{row_of, rows, served_by, serviced, shift_by, sizing_by, telling_pid, unlocking_by, writing}
 use Rattle.o2_world.specs.RowLaws.{EachEntry, IsLawful}
 use Rattle.o2_world.proofs.Lawful.{lawful}
@@ -139,6 +140,38 @@ by_its_heap name ss ruling = record {
       (heap_same t s) (ap (ruling a) (range_same t s 0 heap_most));
 }
 
+-- a ruling over the semaphore that both see
+semaphore_comes : (t : Twins) (written : ℕ → List (List ℕ)) (r q : SemRuling) → q ≡ r → ComesAlike t (by_semaphore written t.one r) (by_semaphore written (other t) q)
+semaphore_comes t written r q is = subst (λ (x : SemRuling). ComesAlike t (by_semaphore written t.one r) (by_semaphore written (other t) x)) (sym is) (same r)
+  where
+    same : (x : SemRuling) → ComesAlike t (by_semaphore written t.one x) (by_semaphore written (other t) x)
+    same (Becomes number) = (t.input, refl, λ e. e)
+    same Waiting = refl
+    same (Refuses error) = refl
+
+semaphore_same : (t : Twins) (s offset : ℕ) → semaphore_at (other t) s offset ≡ semaphore_at t.one s offset
+semaphore_same t s offset = ap number_in (range_same t s offset 4)
+
+requests : (name : List ℕ) (ss : List Slot) → IsRowAlike asks_nothing (row name ss requesting_semaphore)
+requests name ss = record {
+  alike = λ t a alike.
+      let ruling : ℕ → SemRuling = λ word. requesting word t.one.number (timeout_in a) in
+      semaphore_comes t number_written (ruling (semaphore_at t.one (a 3) (a 2))) (ruling (semaphore_at (other t) (a 3) (a 2))) (ap ruling (semaphore_same t (a 3) (a 2)));
+}
+
+waits_for : (name : List ℕ) (ss : List Slot) → IsRowAlike asks_nothing (row name ss waiting_for_semaphore)
+waits_for name ss = record {
+  alike = λ t a alike.
+      let ruling : ℕ → SemRuling = λ word. waiting_for word (timeout_in a) in
+      semaphore_comes t nothing_written (ruling (semaphore_at t.one (a 3) (a 2))) (ruling (semaphore_at (other t) (a 3) (a 2))) (ap ruling (semaphore_same t (a 3) (a 2)));
+}
+
+clears : (name : List ℕ) (ss : List Slot) → IsRowAlike asks_nothing (row name ss clearing_semaphore)
+clears name ss = record { alike = λ t a alike. semaphore_comes t number_written (Becomes 0) (Becomes 0) refl }
+
+sets : (name : List ℕ) (ss : List Slot) → IsRowAlike asks_nothing (row name ss setting_semaphore)
+sets name ss = record { alike = λ t a alike. semaphore_comes t number_written (Becomes 0xFFFF) (Becomes 0xFFFF) refl }
+
 -- nothing is said of one that goes by what other processes hold
 goes_by_others : (r : CallRow) → IsRowAlike asks_others r
 goes_by_others r = record { alike = λ t a alike. absurd (let no : true ≡ false = alike.alone in cc) }
@@ -186,7 +219,7 @@ alike_rows = (
                                       by_its_ruling _ _ _ _ avail_alike,
                                       (
                                         by_its_heap _ (Word ∷ Word ∷ []) (λ a. setting_up (a 1) (a 0)),
-                                        (by_its_heap _ (ToWord ∷ Word ∷ []) (λ a. taking (a 0)), (by_its_heap _ (Word ∷ Word ∷ []) (λ a. giving_back (a 1) (a 0)), tt)),
+                                        (by_its_heap _ (ToWord ∷ Word ∷ []) (λ a. taking (a 0)), (by_its_heap _ (Word ∷ Word ∷ []) (λ a. giving_back (a 1) (a 0)), (requests _ _, (clears _ _, (waits_for _ _, (sets _ _, tt)))))),
                                       ),
                                     ),
                                   ),

@@ -11,7 +11,7 @@ use Rattle.o2_world.specs.Changes.{Change, Holds, Makes, Reserves, Resizes}
 use Rattle.o2_world.specs.Known.{Known, Marks as SegmentMarks}
 use Rattle.o2_world.specs.Rulings.{full_size, grants, held_under, in_use, indexes, is_in_run, made_segment, members, refusal, region_by}
 use Rattle.o2_world.specs.SharedRulings.{holder, marks_under, shared_from}
-use Rattle.o2_world.specs.HugeRulings.{all_bytes, all_dropped, all_hold, bytes_of, dropped_members, flags_in, free_run, held_in_run, huge_allocation, huge_at}
+use Rattle.o2_world.specs.HugeRulings.{all_bytes, all_dropped, bytes_of, dropped_members, flags_in, free_run, held_in_run, huge_allocation, huge_at}
 use Rattle.o2_world.specs.HugeRulings.{huge_reallocation, huge_reallocation_of, is_first, is_huge_fault, is_unheld, left_in_run, new_members, other_shares}
 use Rattle.o2_world.specs.HugeRulings.{resized_members, resized_one, run_changes, run_reserve, run_resized, segments_of, share_of, size_in, sizes_of}
 use Rattle.o2_alone.specs.Renaming.{AreNumberedAlike, IsRenamedKnown, Renaming, comes_to_room, is_full_for, is_shared_run, renamed_changes, renamed_held, renamed_ruling}
@@ -30,9 +30,6 @@ pub no_other : (k : Known) (n first : ℕ) → nat_le shared_from first ≡ fals
 no_other k n first low = ap (λ (b : Bool). cond b (flat_map (λ (m : ℕ). cond (m == n) [] (share_of first m (k.held m first))) (indexes 1 k.processes)) []) low
 
 -- New members of the process alone.
-
-holds_renamed : (f : Renaming) (name first count i n times : ℕ) → all_hold (f name) first count i ((n, times) ∷ []) ≡ renamed_changes f (all_hold name first count i ((n, times) ∷ []))
-holds_renamed f name first count i n times = refl
 
 new_renamed : (f : Renaming) (first count flags n times : ℕ) (is zs : List ℕ) (name other : ℕ) → ((j : ℕ) → other + j ≡ f (name + j))
     → new_members other first count flags ((n, times) ∷ []) is zs ≡ renamed_changes f (new_members name first count flags ((n, times) ∷ []) is zs)

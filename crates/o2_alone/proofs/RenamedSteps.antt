@@ -1,5 +1,5 @@
 -- A step does the same with other numbers for names.
-use Rattle.std.proofs.Common.{◌≡◌, refl, sym, ap, subst, ℕ, cond, ◌&&◌, List, [], ◌∷◌, ◌++◌}
+use Rattle.std.proofs.Common.{◌≡◌, refl, sym, ap, subst, ℕ, Bool, not, cond, ◌&&◌, List, [], ◌∷◌, ◌++◌}
 use Rattle.std.specs.Prelude.{Option, Result, Ok, Err}
 use Rattle.o2_isa.specs.declared.cpu.Cpu.{Cpu}
 use Rattle.o2_isa.specs.declared.cpu.Outcome.TheVariants as outcome
@@ -41,8 +41,9 @@ trapped_behind b e = record e { state = Trapped 1; lines = e.lines ++ Traps b.nu
 
 single_renamed : (t : Twins) (e d : Effect) → Does t e d → Does t (single_stepped t.one e) (single_stepped (other t) d)
 single_renamed t e d same =
-    subst (λ (s : State). Does t (single_stepped t.one e) (cond (has_trap_flag t.one.cpu.flags && is_live s) (trapped_behind (other t) d) d)) (sym same.state)
-    (either t (has_trap_flag t.one.cpu.flags && is_live e.state) (trapped_behind t.one e) (trapped_behind (other t) d) e d
+    subst (λ (s : State). Does t (single_stepped t.one e) (cond (has_trap_flag t.one.cpu.flags && (is_live s && not d.waits)) (trapped_behind (other t) d) d)) (sym same.state)
+    (subst (λ (x : Bool). Does t (single_stepped t.one e) (cond (has_trap_flag t.one.cpu.flags && (is_live e.state && not x)) (trapped_behind (other t) d) d)) (sym same.waits)
+    (either t (has_trap_flag t.one.cpu.flags && (is_live e.state && not e.waits)) (trapped_behind t.one e) (trapped_behind (other t) d) e d
     (λ _. record {
       cpu = same.cpu;
       state = refl;
@@ -51,7 +52,8 @@ single_renamed t e d same =
       input = same.input;
       piece = same.piece;
       lines = ap (λ (ls : List Line). ls ++ Traps t.one.number 1 t.one.cpu.cs t.one.cpu.ip ∷ []) same.lines;
-    }) same)
+      waits = same.waits;
+    }) same))
 
 answered_renamed : (t : Twins) (r q : Result Machine Stop) → stepped (state t.one.cpu t.one.view) ≡ r → IsRenamedResult t.names r q → IsAskedAlike t.names (called_by r) t.one (other t)
     → Does t (answered t.one r) (answered (other t) q)
@@ -63,6 +65,7 @@ answered_renamed t (Ok s) (Ok z) is same alike = record {
   input = λ e. e;
   piece = refl;
   lines = refl;
+  waits = refl;
 }
 answered_renamed t (Ok s) (Err e) is same alike = absurd same
 answered_renamed t (Err d) (Ok z) is same alike = absurd same

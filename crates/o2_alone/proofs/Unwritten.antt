@@ -1,5 +1,5 @@
 -- A step writes no name but those that its process holds as data that can be written.
-use Rattle.std.proofs.Common.{◌≡◌, ◌≢◌, ◌⊎◌, inl, inr, refl, sym, ◌∙◌, ap, ℕ, ◌+◌, Bool, true, false, cond, ◌==◌, ◌&&◌, ◌||◌, List, [], ◌∷◌, ◌++◌, length, arith}
+use Rattle.std.proofs.Common.{◌≡◌, ◌≢◌, ◌⊎◌, inl, inr, refl, sym, ◌∙◌, ap, ℕ, ◌+◌, Bool, true, false, not, cond, ◌==◌, ◌&&◌, ◌||◌, List, [], ◌∷◌, ◌++◌, length, arith}
 use Rattle.std.specs.Prelude.{Option, Some, None, Result, Ok, Err, take, drop, nat_le}
 use Rattle.std.proofs.lemmas.Bool.{eqb-true}
 use Rattle.std.proofs.lemmas.List.{take-append-drop}
@@ -17,7 +17,7 @@ use Rattle.o2_isa.proofs.Writes.{stepped_writes}
 use Rattle.o2_world.specs.World.{is_live}
 use Rattle.o2_world.specs.CallParts.{Before, Effect}
 use Rattle.o2_world.specs.Slots.{Pointer, put_all, targets_in}
-use Rattle.o2_world.specs.Outcomes.{CallRow, Does, Fails, Leaves, Outcome, come_out}
+use Rattle.o2_world.specs.Outcomes.{CallRow, Does, Fails, Waits, Leaves, Outcome, come_out}
 use Rattle.o2_world.specs.Calls.{serviced}
 use Rattle.o2_world.specs.RowLaws.{AreFitParts, IsFitOutcome, IsLawful, fits_at}
 use Rattle.o2_world.proofs.Lawful.{lawful}
@@ -85,13 +85,14 @@ module _ (b : Before) (n : ℕ) (unwritten : IsUnwritten b.view.held n) where
   come_keeps : (r : CallRow) (next : ℕ) (a : ℕ → ℕ) (o : Outcome) → IsFitOutcome b.view (targets_in r.slots a) o → Keeps (come_out r b next a o)
   come_keeps r next a (Fails error values) fit = refl
   come_keeps r next a (Does d) fit = put_all_keeps (targets_in r.slots a) d.parts b.view.bytes fit
+  come_keeps r next a Waits fit = refl
   come_keeps r next a (Leaves action code) fit = refl
 
   served_keeps : (service : ℕ) (next : ℕ) → Keeps (serviced b service next)
   served_keeps service next = by_service Keeps IsLawful b next lawful refl refl (λ r law a good. come_keeps r next a (r.outcome b a) (law.fits b a good)) service
 
   single_keeps : (e : Effect) → Keeps e → Keeps (single_stepped b e)
-  single_keeps e k = by_test (has_trap_flag b.cpu.flags && is_live e.state) _ e (λ _. k) k
+  single_keeps e k = by_test (has_trap_flag b.cpu.flags && (is_live e.state && not e.waits)) _ e (λ _. k) k
 
   module _ (bound : (r : Sreg) (h : Hold) → in_register b.view.registers r ≡ Some h → IsIn b.view.held h) where
     answered_keeps : (r : Result Machine Stop) → stepped (state b.cpu b.view) ≡ r → Keeps (answered b r)

@@ -244,3 +244,4 @@ pub record IsRenamedEffect (f : Renaming) (b alike : Before) (e other : Effect) 
   pub input : alike.input ≡ b.input → other.input ≡ e.input
   pub piece : other.piece ≡ e.piece
   pub lines : other.lines ≡ e.lines
+  pub waits : other.waits ≡ e.waits

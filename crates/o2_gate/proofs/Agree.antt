@@ -4,9 +4,9 @@ use Rattle.o2_isa.specs.View.{View, is_readable, is_writable}
 use Rattle.o2_world.specs.declared.types.Argument.{Argument}
 use Rattle.o2_world.specs.declared.types.Argument.TheVariants as shown
 use Rattle.o2_world.specs.declared.types.Slot.{Slot}
-use Rattle.o2_world.specs.declared.types.Slot.TheVariants.{Word, Reads, Writes, Text, ToWord, ToLong, ToWords, Heap}
+use Rattle.o2_world.specs.declared.types.Slot.TheVariants.{Word, Long, Reads, Writes, Text, ToWord, ToLong, ToWords, Heap}
 use Rattle.o2_world.specs.Calls.{Before, argument, has_arguments, trapped}
-use Rattle.o2_world.specs.Outcomes.{CallRow, Outcome, Fails, Does, Leaves, come_out, served, worded}
+use Rattle.o2_world.specs.Outcomes.{CallRow, Outcome, Fails, Does, Waits, Leaves, come_out, served, worded}
 use Rattle.o2_world.specs.SharedNames.{text_size}
 use Rattle.o2_world.specs.Slots.{Pointer, are_good, heaps_at, heaps_in, pointers_at, pointers_in, shown_at, shown_in, targets_at, targets_in, words_in, words_of}
 use Rattle.o2_run.specs.Room.{call_names, heaped, pointed, worded_names}
@@ -26,6 +26,7 @@ module _ (a w : ℕ → ℕ) where
 
   shown_there : (s : Slot) (n : ℕ) → AreSame (n + words_of s) a w → shown_at s a n ≡ shown_at s w n
   shown_there Word n same = ap shown.Word (same n (omega arith))
+  shown_there Long n same = by_three n same (λ x y z. shown.Long x y)
   shown_there Reads n same = by_three n same (λ x y z. shown.Far x y)
   shown_there Writes n same = by_three n same (λ x y z. shown.Far x y)
   shown_there Text n same = by_three n same (λ x y z. shown.Far x y)
@@ -36,6 +37,7 @@ module _ (a w : ℕ → ℕ) where
 
   targets_there : (s : Slot) (n : ℕ) → AreSame (n + words_of s) a w → targets_at s a n ≡ targets_at s w n
   targets_there Word n same = refl
+  targets_there Long n same = refl
   targets_there Reads n same = refl
   targets_there Writes n same = by_three n same (λ x y z. record { selector = x; offset = y; count = z; good = is_writable } ∷ [])
   targets_there Text n same = refl
@@ -46,6 +48,7 @@ module _ (a w : ℕ → ℕ) where
 
   pointers_there : (v : View) (s : Slot) (n : ℕ) → AreSame (n + words_of s) a w → pointers_at s v a n ≡ pointers_at s v w n
   pointers_there v Word n same = refl
+  pointers_there v Long n same = refl
   pointers_there v Reads n same = by_three n same (λ x y z. record { selector = x; offset = y; count = z; good = is_readable } ∷ [])
   pointers_there v Writes n same = by_three n same (λ x y z. record { selector = x; offset = y; count = z; good = is_writable } ∷ [])
   pointers_there v Text n same = by_three n same (λ x y z. aimed (text_size v) is_readable x y z)
@@ -56,6 +59,7 @@ module _ (a w : ℕ → ℕ) where
 
   heaps_there : (s : Slot) (n : ℕ) → AreSame (n + words_of s) a w → heaps_at s a n ≡ heaps_at s w n
   heaps_there Word n same = refl
+  heaps_there Long n same = refl
   heaps_there Reads n same = refl
   heaps_there Writes n same = refl
   heaps_there Text n same = refl
@@ -97,6 +101,7 @@ module _ (a w : ℕ → ℕ) where
   come_out_same : (r : CallRow) (b : Before) (next : ℕ) (o : Outcome) → AreSame (words_in r.slots) a w → come_out r b next a o ≡ come_out r b next w o
   come_out_same r b next (Fails error values) same = rw (shown_same r.slots same) refl
   come_out_same r b next (Does d) same = rw (shown_same r.slots same, targets_same r.slots same) refl
+  come_out_same r b next Waits same = refl
   come_out_same r b next (Leaves action code) same = refl
 
 -- The call by a row, whose words lie in SS.

@@ -1,7 +1,7 @@
 -- Each pointer of a call on segments is for some bytes.
 use Rattle.std.proofs.Common.{◌≡◌, ℕ, ◌≤◌, ◌==◌, ◌&&◌, Bool, true, false, List, [], ◌∷◌, ap, ◌∙◌, refl, arith}
 use Rattle.o2_world.specs.declared.types.Slot.{Slot}
-use Rattle.o2_world.specs.declared.types.Slot.TheVariants.{Word, Reads, Writes, Text, ToWord, ToLong, ToWords, Heap}
+use Rattle.o2_world.specs.declared.types.Slot.TheVariants.{Word, Long, Reads, Writes, Text, ToWord, ToLong, ToWords, Heap}
 use Rattle.o2_world.specs.Calls.{row_of}
 use Rattle.o2_world.specs.Slots.{Pointer}
 use Rattle.o2_gate.specs.declared.arguments.Arguments.{Arguments}
@@ -22,6 +22,7 @@ AreSome (p ∷ ps) = ((p.count == 0) ≡ false) × AreSome ps
 -- a text, or a value
 abbrev is_sized : Slot → Bool
 is_sized Word = true
+is_sized Long = true
 is_sized Reads = false
 is_sized Writes = false
 is_sized Text = true
@@ -49,6 +50,7 @@ some_in (s ∷ ss) looked a some e = go s (first (is_sized s) (are_sized ss) e) 
   where
     go : (t : Slot) → is_sized t ≡ true → AreSome (target_in ss looked a) → AreSome (target_in (t ∷ ss) looked a)
     go Word e rest = rest
+    go Long e rest = rest
     go Reads e rest = absurd (let z : false ≡ true = e in cc)
     go Writes e rest = absurd (let z : false ≡ true = e in cc)
     go Text e rest = (not_none looked some, rest)

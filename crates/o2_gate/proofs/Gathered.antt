@@ -188,6 +188,7 @@ module _ {P Q : Arguments → Type 0} (more : (a : Arguments) → P a → Q a) w
   on_asked (Ok (called.Back put)) e = tt
   on_asked (Ok (called.Exited code)) e = tt
   on_asked (Ok (called.Trap vector code)) e = tt
+  on_asked (Ok called.Waits) e = tt
   on_asked (Err x) e = tt
 
 module _ {P Q : Type 0} (more : P → Q) where
@@ -197,6 +198,7 @@ module _ {P Q : Type 0} (more : P → Q) where
   on_undone (Ok (called.Back put)) e = tt
   on_undone (Ok (called.Exited code)) e = tt
   on_undone (Ok (called.Trap vector code)) e = tt
+  on_undone (Ok called.Waits) e = more e
   on_undone (Err x) e = tt
 
 pub never_missed : (P : Selector → Type 0) (r : Result Called Fault) → OnMissed r (λ s. ⊥) → OnMissed r P
@@ -205,6 +207,7 @@ never_missed P (Ok (called.Missed s)) e = absurd e
 never_missed P (Ok (called.Back put)) e = tt
 never_missed P (Ok (called.Exited code)) e = tt
 never_missed P (Ok (called.Trap vector code)) e = tt
+never_missed P (Ok called.Waits) e = tt
 never_missed P (Err x) e = tt
 
 -- names that are present are told by an answer that isn't a miss
@@ -214,6 +217,7 @@ tells_present v names (Ok (called.Missed s)) e all = absurd e
 tells_present v names (Ok (called.Back put)) e all = all
 tells_present v names (Ok (called.Exited code)) e all = all
 tells_present v names (Ok (called.Trap vector code)) e all = all
+tells_present v names (Ok called.Waits) e all = all
 tells_present v names (Err x) e all = all
 
 -- the same names
@@ -223,6 +227,7 @@ tells_same v xs ys same (Ok (called.Missed s)) e = λ f. subst (IsMissed v s) (s
 tells_same v xs ys same (Ok (called.Back put)) e = λ f. subst (ArePresent v) (sym (same f)) (e f)
 tells_same v xs ys same (Ok (called.Exited code)) e = λ f. subst (ArePresent v) (sym (same f)) (e f)
 tells_same v xs ys same (Ok (called.Trap vector code)) e = λ f. subst (ArePresent v) (sym (same f)) (e f)
+tells_same v xs ys same (Ok called.Waits) e = λ f. subst (ArePresent v) (sym (same f)) (e f)
 tells_same v xs ys same (Err x) e = λ f. subst (ArePresent v) (sym (same f)) (e f)
 
 -- nothing is missed or asked for
@@ -236,6 +241,7 @@ module _ (r : Result Called Fault) (over : OnUndone r ⊥) where
       missed (Ok (called.Back put)) e = tt
       missed (Ok (called.Exited code)) e = tt
       missed (Ok (called.Trap vector code)) e = tt
+      missed (Ok called.Waits) e = tt
       missed (Err x) e = tt
 
   pub over_asked : (P : Arguments → Type 0) → OnAsked r P
@@ -247,6 +253,7 @@ module _ (r : Result Called Fault) (over : OnUndone r ⊥) where
       asked (Ok (called.Back put)) e = tt
       asked (Ok (called.Exited code)) e = tt
       asked (Ok (called.Trap vector code)) e = tt
+      asked (Ok called.Waits) e = tt
       asked (Err x) e = tt
 
   pub over_undone : (P : Type 0) → OnUndone r P

@@ -8,7 +8,7 @@ use Rattle.o2_isa.specs.Presence.{IsMissed, is_in}
 use Rattle.o2_world.specs.Calls.{Before, by_heap, heap_bytes, on_heap, row_of}
 use Rattle.o2_world.specs.Changes.{moved_lines}
 use Rattle.o2_world.specs.HeapRulings.{HeapRuling}
-use Rattle.o2_world.specs.Outcomes.{CallRow, Fails, Outcome, come_out, row as call_row}
+use Rattle.o2_world.specs.Outcomes.{CallRow, Fails, Outcome, come_out}
 use Rattle.o2_world.specs.Slots.{may_have_heap, pointers_in, targets_in, words_in}
 use Rattle.o2_world.specs.declared.types.Slot.{Slot}
 use Rattle.o2_world.specs.declared.types.Slot.TheVariants.{Heap}
@@ -19,16 +19,15 @@ use Rattle.o2_gate.specs.declared.called.Called.{Called}
 use Rattle.o2_gate.specs.declared.row.Row.{Row}
 use Rattle.o2_gate.specs.Befores.{boundless}
 use Rattle.o2_gate.specs.Given.{pointers_by}
-use Rattle.o2_gate.specs.Heaps.{IsHeapMissed, IsHeapThere, IsNoHeap, behind_heap, done_by, heap_names, ruling_by, selector_of}
+use Rattle.o2_gate.specs.Heaps.{IsHeapMissed, IsHeapThere, IsNoHeap, behind_heap, done_by, heap_names, is_heap_call, ruling_by, selector_of}
 use Rattle.o2_gate.specs.Pointed.{ArePresent, IsGoodTest, are_ready}
 use Rattle.o2_gate.specs.Replies.{FitsIn}
 use Rattle.o2_gate.specs.Rows.{IsRow}
-use Rattle.o2_gate.proofs.Heaps.{IsByHeap, by_heap_row, is_late, no_heaped}
-use Rattle.o2_gate.proofs.Serves.{come_out_row}
+use Rattle.o2_gate.proofs.Heaps.{IsByHeap, by_heap_row, no_heaped}
 
 -- The row.
 
-module _ (service : ℕ) (late : 20 ≤ service) (x : Row) (r : CallRow) (is : row_of service ≡ Some r) (same : IsRow r x) where
+module _ (service : ℕ) (late : is_heap_call service ≡ true) (x : Row) (r : CallRow) (is : row_of service ≡ Some r) (same : IsRow r x) where
   abbrev by : IsByHeap service r
   by = by_heap_row service r is
 
@@ -37,18 +36,18 @@ module _ (service : ℕ) (late : 20 ≤ service) (x : Row) (r : CallRow) (is : r
 
   tail_is : behind_heap service r.slots ≡ tail
   tail_is =
-      ap (λ (c : Bool). cond c (drop 1 r.slots) []) (is_late service late)
+      ap (λ (c : Bool). cond c (drop 1 r.slots) []) late
       ∙ ap (λ (ss : List Slot). drop 1 ss) (sym same.slots)
 
   pub slots_are : x.slots.now ≡ Heap ∷ tail
   slots_are =
       same.slots
       ∙ by.slots
-      ∙ ap (λ (c : Bool). cond c (Heap ∷ behind_heap service r.slots) r.slots) (is_late service late)
+      ∙ ap (λ (c : Bool). cond c (Heap ∷ behind_heap service r.slots) r.slots) late
       ∙ ap (λ (ss : List Slot). Heap ∷ ss) tail_is
 
   pub selector_is : (a : ℕ → ℕ) → selector_of service x.slots.now a ≡ a (words_in tail)
-  selector_is a = ap (λ (c : Bool). a (words_in (cond c (drop 1 x.slots.now) []))) (is_late service late)
+  selector_is a = ap (λ (c : Bool). a (words_in (cond c (drop 1 x.slots.now) []))) late
 
   pub words_are : words_in tail ≤ 5
   words_are = subst (λ (ss : List Slot). words_in ss ≤ 5) tail_is by.words
@@ -68,17 +67,9 @@ module _ (service : ℕ) (late : 20 ≤ service) (x : Row) (r : CallRow) (is : r
   pub outcome_is : (b : Before) (a : ℕ → ℕ) → r.outcome b a ≡ on_heap x.slots.now b (a (words_in tail)) (ruling_by service a)
   outcome_is b a =
       by.outcome b a
-      ∙ ap (λ (c : Bool). cond c (on_heap r.slots b (selector_of service r.slots a) (ruling_by service a)) (r.outcome b a)) (is_late service late)
+      ∙ ap (λ (c : Bool). cond c (on_heap r.slots b (selector_of service r.slots a) (ruling_by service a)) (r.outcome b a)) late
       ∙ ap (λ (ss : List Slot). on_heap ss b (selector_of service ss a) (ruling_by service a)) (sym same.slots)
       ∙ ap (λ (s : ℕ). on_heap x.slots.now b s (ruling_by service a)) (selector_is a)
-
-  pub come_is : (outcome : Before → (ℕ → ℕ) → Outcome) (b : Before) (next : ℕ) (a : ℕ → ℕ) (o : Outcome) → r.outcome b a ≡ o
-      → come_out (call_row x.name.now x.slots.now outcome) b next a o ≡ come_out r b next a (r.outcome b a)
-  come_is outcome b next a o e =
-      ap (λ (n : List ℕ). come_out (call_row n x.slots.now outcome) b next a o) same.name
-      ∙ ap (λ (ss : List Slot). come_out (call_row r.name ss outcome) b next a o) same.slots
-      ∙ sym (come_out_row r outcome b next a o)
-      ∙ ap (come_out r b next a) (sym e)
 
   -- no heap may lie there
   pub outcome_none : (b : Before) (a : ℕ → ℕ) → may_have_heap b.view (a (words_in tail)) ≡ false → r.outcome b a ≡ Fails 315 []

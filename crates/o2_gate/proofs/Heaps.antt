@@ -1,5 +1,5 @@
 -- Heaps: the rows of their calls, the test of a selector, and the words that are written one by one.
-use Rattle.std.proofs.Common.{◌≡◌, ℕ, zero, suc, ◌+◌, ◌-◌, ◌/◌, ◌%◌, ◌<◌, ◌≤◌, ◌==◌, ◌&&◌, ◌||◌, not, min, nat_le, nat_lt, Bool, true, false, cond, List, [], ◌∷◌, ◌++◌, length, take, drop, Option, Some, None, option_map, ap, sym, ◌∙◌, refl, subst, arith, if◌then◌else◌}
+use Rattle.std.proofs.Common.{◌≡◌, ◌≢◌, ℕ, zero, suc, ◌+◌, ◌-◌, ◌/◌, ◌%◌, ◌<◌, ◌≤◌, ◌==◌, ◌&&◌, ◌||◌, not, min, nat_le, nat_lt, Bool, true, false, cond, List, [], ◌∷◌, ◌++◌, length, take, drop, Option, Some, None, option_map, ap, sym, ◌∙◌, refl, subst, arith, if◌then◌else◌}
 use Rattle.std.proofs.lemmas.Bool.Decides.{nat_tests}
 use Rattle.std.proofs.lemmas.Grind.{common_steps}
 use Rattle.std.specs.Prelude.{slice_set}
@@ -98,7 +98,7 @@ by_heaps = (
                                           record { slots = refl; heaps = λ a. refl; outcome = λ b a. refl; aims = λ v a. refl; fits = λ value less. (less, (tt, tt)); words = omega arith },
                                           (
                                             record { slots = refl; heaps = λ a. refl; outcome = λ b a. refl; aims = λ v a. refl; fits = λ value less. (tt, (tt, tt)); words = omega arith },
-                                            tt,
+                                            (plain 25 _ refl (λ a. refl), (plain 26 _ refl (λ a. refl), (plain 27 _ refl (λ a. refl), (plain 28 _ refl (λ a. refl), tt)))),
                                           ),
                                         ),
                                       ),
@@ -125,11 +125,52 @@ by_heaps = (
 pub by_heap_row : (service : ℕ) (r : CallRow) → row_of service ≡ Some r → IsByHeap service r
 by_heap_row = of_entry IsByHeap by_heaps
 
-pub is_late : (service : ℕ) → 20 ≤ service → is_heap_call service ≡ true
-is_late service late = grind (arith, nat_tests)
+both_and : (a b : Bool) → a ≡ true → b ≡ true → (a && b) ≡ true
+both_and a b e g = rw (e, g) refl
+
+at_least : (n m : ℕ) → n ≤ m → nat_le n m ≡ true
+at_least n m e = grind (arith, nat_tests)
+
+pub is_late : (service : ℕ) → 20 ≤ service → service ≤ 22 → is_heap_call service ≡ true
+is_late service first last = both_and _ _ (at_least 20 service first) (at_least service 22 last)
+
+left_of : (a b : Bool) → (a && b) ≡ true → a ≡ true
+left_of a b e = grind arith
+
+right_of : (a b : Bool) → (a && b) ≡ true → b ≡ true
+right_of a b e = grind arith
+
+le_of : (n m : ℕ) → nat_le n m ≡ true → n ≤ m
+le_of n m e = grind (arith, nat_tests)
+
+not_le : (n m : ℕ) → nat_le n m ≡ false → m < n
+not_le n m e = grind (arith, nat_tests)
+
+no_more : (n m : ℕ) → m < n → nat_le n m ≡ false
+no_more n m e = grind (arith, nat_tests)
+
+-- and by its number
+pub heap_first : (service : ℕ) → is_heap_call service ≡ true → 20 ≤ service
+heap_first service e = le_of 20 service (left_of _ _ e)
+
+pub heap_last : (service : ℕ) → is_heap_call service ≡ true → service ≤ 22
+heap_last service e = le_of service 22 (right_of _ _ e)
+
+pub below : (n k : ℕ) → n ≢ k → n < suc k → n < k
+below zero zero other less = absurd (other refl)
+below zero (suc k) other less = omega arith
+below (suc n) zero other less = absurd (omega (arith, less))
+below (suc n) (suc k) other less = let next = below n k (λ e. other (ap suc e)) (omega (arith, less)) in omega (arith, next)
+
+pub not_between : (service : ℕ) → is_heap_call service ≡ false → service < 23 → service < 20
+not_between service e less = go (nat_le 20 service) refl e
+  where
+    go : (c : Bool) → nat_le 20 service ≡ c → (c && nat_le service 22) ≡ false → service < 20
+    go true is e = absurd (let z : true ≡ false = sym (at_least service 22 (omega (arith, less))) ∙ e in cc)
+    go false is e = not_le 20 service is
 
 pub is_early : (service : ℕ) → service < 20 → is_heap_call service ≡ false
-is_early service early = grind (arith, nat_tests)
+is_early service early = ap (λ (c : Bool). c && nat_le service 22) (no_more 20 service early)
 
 -- The test of a selector.
 
@@ -140,8 +181,8 @@ no_and false b e = refl
 and_no : (a b : Bool) → a ≡ false → (a && b) ≡ false
 and_no a b e = rw e refl
 
-both_and : (a b : Bool) → a ≡ true → b ≡ true → (a && b) ≡ true
-both_and a b e g = rw (e, g) refl
+pub is_behind : (service : ℕ) → 22 < service → is_heap_call service ≡ false
+is_behind service late = no_and (nat_le 20 service) (nat_le service 22) (no_more service 22 late)
 
 bound_writing : (n : Bool) (o : Option Hold) → is_for_writing o ≡ false → is_for_writing (cond n None o) ≡ false
 bound_writing true o e = refl
@@ -175,10 +216,7 @@ held_at : (b : Bool) (o : Option Hold) (h : Hold) → cond b o None ≡ Some h �
 held_at true o h e = e
 held_at false o h e = absurd (let z : ◌≡◌ {A = Option Hold} None (Some h) = e in cc)
 
-at_least : (n m : ℕ) → n ≤ m → nat_le n m ≡ true
-at_least n m e = grind (arith, nat_tests)
-
-all_three : (a b c : Bool) → a ≡ true → b ≡ true → c ≡ true → (a && (b && c)) ≡ true
+pub all_three : (a b c : Bool) → a ≡ true → b ≡ true → c ≡ true → (a && (b && c)) ≡ true
 all_three a b c e g h = rw (e, g, h) refl
 
 pub heap_there : (v : View) (s : ℕ) → is_null s ≡ false → is_for_writing (found v s) ≡ true → loaded.Done ≡ probe_of v DataReg (selector s) → IsSized v → IsHeapThere v s
@@ -227,17 +265,14 @@ pub record IsHere (v : View) (s : ℕ) : Type 0 where
   pub writable : is_writable hold.rights ≡ true
   pub some : 1 ≤ length (v.bytes hold.name)
 
-first_and : (a b c : Bool) → (a && (b && c)) ≡ true → a ≡ true
+pub first_and : (a b c : Bool) → (a && (b && c)) ≡ true → a ≡ true
 first_and a b c e = grind arith
 
-next_and : (a b c : Bool) → (a && (b && c)) ≡ true → b ≡ true
+pub next_and : (a b c : Bool) → (a && (b && c)) ≡ true → b ≡ true
 next_and a b c e = grind arith
 
-last_and : (a b c : Bool) → (a && (b && c)) ≡ true → c ≡ true
+pub last_and : (a b c : Bool) → (a && (b && c)) ≡ true → c ≡ true
 last_and a b c e = grind arith
-
-le_of : (n m : ℕ) → nat_le n m ≡ true → n ≤ m
-le_of n m e = grind (arith, nat_tests)
 
 pub here_of : (v : View) (s : ℕ) → is_ready is_writable v s 0 1 ≡ true → IsHere v s
 unfolding is_ready

@@ -4,7 +4,7 @@ use Rattle.o2_isa.specs.declared.cpu.Cpu.{Cpu}
 use Rattle.o2_isa.specs.View.{View, Filling}
 use Rattle.o2_world.specs.Calls.{Before, Effect}
 use Rattle.o2_gate.specs.declared.called.Called.{Called}
-use Rattle.o2_gate.specs.declared.called.Called.TheVariants.{Back, Exited, Trap, Missed, Asked}
+use Rattle.o2_gate.specs.declared.called.Called.TheVariants.{Back, Exited, Trap, Missed, Asked, Waits}
 use Rattle.o2_run.specs.declared.steps.Stop.TheVariants as stop
 use Rattle.o2_run.specs.declared.fault.Fault.{Fault}
 use Rattle.o2_run.specs.declared.fault.Fault.TheVariants as fault
@@ -32,6 +32,7 @@ any_reason P Q S f b e cpu old new i j c d r q (Ok (Exited code)) never does = d
 any_reason P Q S f b e cpu old new i j c d r q (Ok (Trap vector code)) never does = does
 any_reason P Q S f b e cpu old new i j c d r q (Ok (Missed s)) never does = does
 any_reason P Q S f b e cpu old new i j c d r q (Ok (Asked a next)) never does = does
+any_reason P Q S f b e cpu old new i j c d r q (Ok Waits) never does = does
 any_reason P Q S f b e cpu old new i j c d r q (Err fault.Sink) never does = does
 any_reason P Q S f b e cpu old new i j c d r q (Err (fault.Stopped stop.Input)) never does = absurd never
 any_reason P Q S f b e cpu old new i j c d r q (Err (fault.Stopped stop.NoRoom)) never does = absurd never
@@ -46,6 +47,7 @@ next_reason P Q more f b e cpu old new i j c d r q (Ok (Exited code)) does = doe
 next_reason P Q more f b e cpu old new i j c d r q (Ok (Trap vector code)) does = does
 next_reason P Q more f b e cpu old new i j c d r q (Ok (Missed s)) does = does
 next_reason P Q more f b e cpu old new i j c d r q (Ok (Asked a next)) does = does
+next_reason P Q more f b e cpu old new i j c d r q (Ok Waits) does = does
 next_reason P Q more f b e cpu old new i j c d r q (Err fault.Sink) does = does
 next_reason P Q more f b e cpu old new i j c d r q (Err (fault.Stopped stop.Input)) does = record { cause = more does.cause; untouched = does.untouched }
 next_reason P Q more f b e cpu old new i j c d r q (Err (fault.Stopped stop.NoRoom)) does = absurd does

@@ -19,4 +19,5 @@ pub mod Takes
 pub mod Lines
 pub mod Serves
 pub mod HeapCalls
+pub mod Semaphores
 pub mod Counts

@@ -44,7 +44,61 @@ abbrev Starts : ℕ → CallRow → Type 0
 Starts service r = (b : Before) (a : ℕ → ℕ) → r.outcome b a ≡ r.outcome b (word_in (from 0 (words_in r.slots) a))
 
 starts : EachEntry Starts rows
-starts = (λ b a. refl, (λ b a. refl, (λ b a. refl, (λ b a. refl, (λ b a. refl, (λ b a. refl, (λ b a. refl, (λ b a. refl, (λ b a. refl, (λ b a. refl, (λ b a. refl, (λ b a. refl, (λ b a. refl, (λ b a. refl, (λ b a. refl, (λ b a. refl, (λ b a. refl, (λ b a. refl, (λ b a. refl, (λ b a. refl, (λ b a. refl, (λ b a. refl, tt))))))))))))))))))))))
+starts = (
+  λ b a. refl,
+  (
+    λ b a. refl,
+    (
+      λ b a. refl,
+      (
+        λ b a. refl,
+        (
+          λ b a. refl,
+          (
+            λ b a. refl,
+            (
+              λ b a. refl,
+              (
+                λ b a. refl,
+                (
+                  λ b a. refl,
+                  (
+                    λ b a. refl,
+                    (
+                      λ b a. refl,
+                      (
+                        λ b a. refl,
+                        (
+                          λ b a. refl,
+                          (
+                            λ b a. refl,
+                            (
+                              λ b a. refl,
+                              (
+                                λ b a. refl,
+                                (
+                                  λ b a. refl,
+                                  (
+                                    λ b a. refl,
+                                    (λ b a. refl, (λ b a. refl, (λ b a. refl, (λ b a. refl, (λ b a. refl, (λ b a. refl, (λ b a. refl, (λ b a. refl, tt)))))))),
+                                  ),
+                                ),
+                              ),
+                            ),
+                          ),
+                        ),
+                      ),
+                    ),
+                  ),
+                ),
+              ),
+            ),
+          ),
+        ),
+      ),
+    ),
+  ),
+)
 
 pub looks : (service : ℕ) (r : CallRow) → row_of service ≡ Some r → Looks r
 looks service r e b a w same =

@@ -37,15 +37,6 @@ module _ {X : Type 0} (f : X → List Line) (xs : List X) (k : ℕ) (d : X) (les
       ∙ ap (λ (t : List ℕ). t ++ lines_text (flat_map f (drop (k + 1) xs))) text_more
       ∙ append_assoc (lines_text (flat_map f (take k xs))) (lines_text (f (get_or xs k d))) (lines_text (flat_map f (drop (k + 1) xs)))
 
--- One line again and again.
-pub times_more : (n : ℕ) (l : Line) → lines_text (replicate (n + 1) l) ≡ lines_text (replicate n l) ++ lines_text (l ∷ [])
-times_more zero l = refl
-times_more (suc n) l =
-    let next : suc n + 1 ≡ suc (n + 1) = omega arith in
-    ap (λ (m : ℕ). lines_text (replicate m l)) next
-    ∙ ap (λ (t : List ℕ). line_text l ++ t) (times_more n l)
-    ∙ sym (append_assoc (line_text l) (lines_text (replicate n l)) (lines_text (l ∷ [])))
-
 pub times_split : (n k : ℕ) (l : Line) → k < n → lines_text (replicate n l) ≡ lines_text (replicate k l) ++ (lines_text (l ∷ []) ++ lines_text (replicate (n - (k + 1)) l))
 times_split zero k l less = absurd (omega (arith, less))
 times_split (suc n) zero l less =

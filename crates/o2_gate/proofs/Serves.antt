@@ -5,7 +5,7 @@ use Rattle.o2_isa.specs.View.{View, Filling, IsBound, is_readable, is_writable}
 use Rattle.o2_isa.specs.Pointers.{is_ready}
 use Rattle.o2_world.specs.Calls.{Before, argument, asks, has_arguments, read_slots, row_of}
 use Rattle.o2_world.specs.Known.{Known}
-use Rattle.o2_world.specs.Outcomes.{CallRow, Outcome, Fails, Does, Leaves, by_ruling, come_out, row, ruled}
+use Rattle.o2_world.specs.Outcomes.{CallRow, Outcome, Fails, Does, Waits, Leaves, by_ruling, come_out, row, ruled}
 use Rattle.o2_world.specs.Slots.{Pointer, are_good, pointers_in, targets_in, words_in}
 use Rattle.o2_world.specs.declared.types.Slot.{Slot}
 use Rattle.o2_gate.specs.declared.arguments.Arguments.{Arguments}
@@ -15,7 +15,7 @@ use Rattle.o2_gate.specs.Given.{AreRead, AreSame, pointers_by, word_in}
 use Rattle.o2_gate.specs.Overs.{avail_slots, pid_slots, write_slots}
 use Rattle.o2_gate.specs.Pointed.{IsGoodTest, are_ready}
 use Rattle.o2_gate.specs.Requests.{ruling_of}
-use Rattle.o2_gate.specs.Rows.{IsRowOf, name_by, slots_by}
+use Rattle.o2_gate.specs.Rows.{IsRow, IsRowOf, name_by, slots_by}
 use Rattle.o2_gate.specs.Targets.{asked, looked_in, target_in, targets}
 use Rattle.o2_gate.proofs.Agree.{pointers_same}
 
@@ -60,7 +60,17 @@ pub come_out_row : (r : CallRow) (outcome : Before → (ℕ → ℕ) → Outcome
     → come_out r b next a o ≡ come_out (row r.name r.slots outcome) b next a o
 come_out_row r outcome b next a (Fails error values) = refl
 come_out_row r outcome b next a (Does d) = refl
+come_out_row r outcome b next a Waits = refl
 come_out_row r outcome b next a (Leaves action code) = refl
+
+-- the same by the name and the slots that the code has
+pub come_is : (x : Row) (r : CallRow) (same : IsRow r x) (outcome : Before → (ℕ → ℕ) → Outcome) (b : Before) (next : ℕ) (a : ℕ → ℕ) (o : Outcome) → r.outcome b a ≡ o
+    → come_out (row x.name.now x.slots.now outcome) b next a o ≡ come_out r b next a (r.outcome b a)
+come_is x r same outcome b next a o e =
+    ap (λ (n : List ℕ). come_out (row n x.slots.now outcome) b next a o) same.name
+    ∙ ap (λ (ss : List Slot). come_out (row r.name ss outcome) b next a o) same.slots
+    ∙ sym (come_out_row r outcome b next a o)
+    ∙ ap (come_out r b next a) (sym e)
 
 module _ (x : Arguments) (service : ℕ) (words : List ℕ) (same : x.service ≡ service) (same_words : x.words ≡ words) (r : CallRow) (e : row_of service ≡ Some r) where
   its_row : row_of x.service ≡ Some r

@@ -109,9 +109,6 @@ module _ (v : View) (s o : ℕ) (part : List ℕ) (some : (length part == 0) ≡
       go None = refl
       go (Some h) = ap (λ (k : ℕ). v.present h.name && (ok h.rights && nat_le (p + n) k)) (put_lengths h.name)
 
-pub keeps_part : (v w : View) (s o : ℕ) (part : List ℕ) → w ≡ with_part v s o part → KeepsAllButBytes v w
-keeps_part v w s o part e = subst (λ (x : View). x ≡ record v { bytes = x.bytes }) (sym e) refl
-
 pub keeps_same : (v w : View) → w ≡ v → KeepsAllButBytes v w
 keeps_same v w e = subst (λ (x : View). x ≡ record v { bytes = x.bytes }) (sym e) refl
 

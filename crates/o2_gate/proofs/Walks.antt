@@ -6,7 +6,7 @@ use Rattle.o2_base.specs.declared.selector.Selector.{Selector}
 use Rattle.o2_isa.specs.View.{View, Filling, Hold, is_readable, is_writable}
 use Rattle.o2_isa.specs.Pointers.{is_ready, put_at_pointer}
 use Rattle.o2_world.specs.declared.types.Slot.{Slot}
-use Rattle.o2_world.specs.declared.types.Slot.TheVariants.{Word, Reads, Writes, Text, ToWord, ToLong, ToWords, Heap}
+use Rattle.o2_world.specs.declared.types.Slot.TheVariants.{Word, Long, Reads, Writes, Text, ToWord, ToLong, ToWords, Heap}
 use Rattle.o2_world.specs.SharedNames.{looked_at, name_most, text_size}
 use Rattle.o2_world.specs.Slots.{Pointer, parts_at, parts_in, pointer_at, pointers_at, pointers_in, put_all, targets_at, targets_in, words_in, words_of}
 use Rattle.o2_gate.specs.declared.pointer.Pointed.{Pointed}
@@ -64,6 +64,7 @@ module _ (v : View) (a : ℕ → ℕ) (ss : List Slot) where
 
   pub then_slot : (s : Slot) (r : Pointed) → IsGoodTest v (here s) → Tells v rest r → Tells v (pointers_by (s ∷ ss) a) r
   then_slot Word r x y = y
+  then_slot Long r x y = y
   then_slot Reads r x y = then_tells v (fixed (a (place - 1)) is_readable) rest r x y
   then_slot Writes r x y = then_tells v (fixed (a (place - 1)) is_writable) rest r x y
   then_slot Text r x y = then_tells v text rest r x y
@@ -74,6 +75,7 @@ module _ (v : View) (a : ℕ → ℕ) (ss : List Slot) where
 
   pub bad_slot : (s : Slot) → IsBadTest v (here s) → IsBadTest v (pointers_by (s ∷ ss) a)
   bad_slot Word x = absurd (nothing_bad x)
+  bad_slot Long x = absurd (nothing_bad x)
   bad_slot Reads x = bad_first v (fixed (a (place - 1)) is_readable) rest x
   bad_slot Writes x = bad_first v (fixed (a (place - 1)) is_writable) rest x
   bad_slot Text x = bad_first v text rest x
@@ -84,6 +86,7 @@ module _ (v : View) (a : ℕ → ℕ) (ss : List Slot) where
 
   pub missed_slot : (s : Slot) (sel : Selector) → IsMissedTest v sel (here s) → IsMissedTest v sel (pointers_by (s ∷ ss) a)
   missed_slot Word sel x = absurd (nothing_missed sel x)
+  missed_slot Long sel x = absurd (nothing_missed sel x)
   missed_slot Reads sel x = missed_first v (fixed (a (place - 1)) is_readable) rest sel x
   missed_slot Writes sel x = missed_first v (fixed (a (place - 1)) is_writable) rest sel x
   missed_slot Text sel x = missed_first v text rest sel x
@@ -95,6 +98,7 @@ module _ (v : View) (a : ℕ → ℕ) (ss : List Slot) where
   -- The text that was read last is that behind the only pointer to one.
   text_there : (s : Slot) (t new : TextArgument) → texts_at s + texts_in ss ≤ 1 → (texts_in ss ≡ 0 → t ≡ new) → IsTextAt v a new s place → IsTextAt v a t s place
   text_there Word t new one same is = tt
+  text_there Long t new one same is = tt
   text_there Reads t new one same is = tt
   text_there Writes t new one same is = tt
   text_there Text t new one same is = subst (λ (x : TextArgument). IsTextAt v a x Text place) (sym (same (omega (arith, one)))) is
@@ -112,6 +116,7 @@ module _ (v : View) (a : ℕ → ℕ) (ss : List Slot) where
 -- The pointers that were tested are those of the words and of the text.
 aimed_there : (v : View) (f : Filling) (a : ℕ → ℕ) (t : TextArgument) (s : Slot) (n : ℕ) → IsTextAt v a t s n → pointers_at s (boundless f v) a n ≡ target_at s (looked_at (name_most + 1) t.bytes) a n
 aimed_there v f a t Word n is = refl
+aimed_there v f a t Long n is = refl
 aimed_there v f a t Reads n is = refl
 aimed_there v f a t Writes n is = refl
 aimed_there v f a t Text n is = ap (λ (k : ℕ). pointer false (a (n + 1)) (a n) k ∷ []) (is.size f)
@@ -143,6 +148,7 @@ module _ (v : View) (a : ℕ → ℕ) (ss : List Slot) where
 
   pub ready_here : (s : Slot) → are_ready v (targets_in (s ∷ ss) a) ≡ true → are_ready v (targets_at s a (words_in ss)) ≡ true
   ready_here Word e = refl
+  ready_here Long e = refl
   ready_here Reads e = refl
   ready_here Writes e = first_of _ _ e
   ready_here Text e = refl
@@ -153,6 +159,7 @@ module _ (v : View) (a : ℕ → ℕ) (ss : List Slot) where
 
   pub ready_behind_slot : (s : Slot) → are_ready v (targets_in (s ∷ ss) a) ≡ true → are_ready v behind ≡ true
   ready_behind_slot Word e = e
+  ready_behind_slot Long e = e
   ready_behind_slot Reads e = e
   ready_behind_slot Writes e = last_of _ _ e
   ready_behind_slot Text e = e
@@ -166,6 +173,7 @@ module _ (v : View) (a : ℕ → ℕ) (ss : List Slot) where
       → put_all held (targets_in (s ∷ ss) a) (parts_in (s ∷ ss) value) bytes
       ≡ put_all held behind (parts_in ss value) (put_all held (targets_at s a (words_in ss)) (parts_at s value) bytes)
   put_slot Word value held bytes fits = refl
+  put_slot Long value held bytes fits = refl
   put_slot Reads value held bytes fits = refl
   put_slot Writes value held bytes fits = absurd fits
   put_slot Text value held bytes fits = refl
@@ -212,6 +220,7 @@ both_of false b c f e = absurd (let z : false ≡ true = e in cc)
 pub written_ready : (v : View) (a : ℕ → ℕ) (looked value : ℕ) (ss : List Slot) → FitsIn ss value → are_ready v (target_in ss looked a) ≡ true → are_ready v (targets_in ss a) ≡ true
 written_ready v a looked value [] fits e = refl
 written_ready v a looked value (Word ∷ ss) fits e = written_ready v a looked value ss fits.1 e
+written_ready v a looked value (Long ∷ ss) fits e = written_ready v a looked value ss fits.1 e
 written_ready v a looked value (Reads ∷ ss) fits e = written_ready v a looked value ss fits.1 (last_of _ _ e)
 written_ready v a looked value (Writes ∷ ss) fits e = absurd fits.0
 written_ready v a looked value (Text ∷ ss) fits e = written_ready v a looked value ss fits.1 (last_of _ _ e)

@@ -4,7 +4,7 @@ use Rattle.o2_base.specs.declared.selector.Selector.{Selector}
 use Rattle.o2_isa.specs.declared.cpu.Cpu.{Cpu}
 use Rattle.o2_isa.specs.View.{View, Filling, IsBound}
 use Rattle.o2_world.specs.declared.types.Slot.{Slot}
-use Rattle.o2_world.specs.declared.types.Slot.TheVariants.{Word, Reads, Writes, Text, ToWord, ToLong, ToWords, Heap}
+use Rattle.o2_world.specs.declared.types.Slot.TheVariants.{Word, Long, Reads, Writes, Text, ToWord, ToLong, ToWords, Heap}
 use Rattle.o2_world.specs.Calls.{argument, has_arguments}
 use Rattle.o2_world.specs.SharedNames.{looked_at, name_most, text_at, text_size}
 use Rattle.o2_world.specs.Slots.{pointers_in, words_in}
@@ -43,6 +43,7 @@ ReadsText v s offset (read.Missed sel) = IsMissedTest v sel (text_pointer s offs
 -- the text behind each pointer to one
 abbrev pub IsTextAt : View → (ℕ → ℕ) → TextArgument → Slot → (place : ℕ) → Type 0
 IsTextAt v a t Word n = Unit {0}
+IsTextAt v a t Long n = Unit {0}
 IsTextAt v a t Reads n = Unit {0}
 IsTextAt v a t Writes n = Unit {0}
 IsTextAt v a t Text n = IsRead v (a (n + 1)) (a n) t

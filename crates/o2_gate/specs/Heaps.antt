@@ -1,5 +1,5 @@
 -- The calls on a heap inside a segment: the test of the heap's selector, and what each is over the segment's bytes.
-use Rattle.std.specs.Prelude.{◌≡◌, ℕ, ◌==◌, min, Bool, true, false, List, [], ◌∷◌, ◌++◌, nat_le, drop, Option, Some, None, if◌then◌else◌}
+use Rattle.std.specs.Prelude.{◌≡◌, ℕ, ◌==◌, ◌&&◌, min, Bool, true, false, List, [], ◌∷◌, ◌++◌, nat_le, drop, Option, Some, None, if◌then◌else◌}
 use Rattle.o2_base.specs.declared.selector.Selector.{Selector}
 use Rattle.o2_isa.specs.View.{View, Filling, is_writable, whole}
 use Rattle.o2_isa.specs.Pointers.{is_ready, range_of}
@@ -18,9 +18,9 @@ use Rattle.o2_gate.specs.declared.pointer.Pointed.TheVariants.{Good, Bad, Missed
 use Rattle.o2_gate.specs.Befores.{boundless}
 use Rattle.o2_gate.specs.Pointed.{ArePresent, IsAway}
 
--- the calls on heaps by the numbers of their services, which are the last ones
+-- the calls on heaps by the numbers of their services
 abbrev pub is_heap_call : (service : ℕ) → Bool
-is_heap_call service = nat_le 20 service
+is_heap_call service = nat_le 20 service && nat_le service 22
 
 abbrev pub heap_by : (selector : ℕ) → Pointer
 heap_by s = record { selector = s; offset = 0; count = 1; good = is_writable }

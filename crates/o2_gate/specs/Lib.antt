@@ -12,4 +12,5 @@ pub mod Called
 pub mod Names
 pub mod Overs
 pub mod Heaps
+pub mod Semaphores
 pub mod Pieces

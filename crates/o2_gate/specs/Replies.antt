@@ -3,7 +3,7 @@ use Rattle.std.specs.Prelude.{ℕ, ◌≤◌, List, [], ◌∷◌, Option, ◌==
 use Rattle.o2_isa.specs.View.{Hold}
 use Rattle.o2_world.specs.declared.types.Argument.{Argument}
 use Rattle.o2_world.specs.declared.types.Slot.{Slot}
-use Rattle.o2_world.specs.declared.types.Slot.TheVariants.{Word, Reads, Writes, Text, ToWord, ToLong, ToWords, Heap}
+use Rattle.o2_world.specs.declared.types.Slot.TheVariants.{Word, Long, Reads, Writes, Text, ToWord, ToLong, ToWords, Heap}
 use Rattle.o2_world.specs.Slots.{parts_in, put_all, shown_in, targets_in, values_in, words_in}
 use Rattle.o2_world.specs.World.{Line, Calls}
 use Rattle.o2_gate.specs.declared.arguments.Arguments.{Arguments}
@@ -15,6 +15,7 @@ use Rattle.o2_gate.specs.Targets.{name_of, slots_of}
 -- a value goes behind a pointer for one, and fits there; no other pointer is for writing, and no heap
 abbrev pub FitsAt : Slot → (value : ℕ) → Type 0
 FitsAt Word value = Unit {0}
+FitsAt Long value = Unit {0}
 FitsAt Reads value = Unit {0}
 FitsAt Writes value = ⊥
 FitsAt Text value = Unit {0}

@@ -1,12 +1,13 @@
 -- What each row of a call keeps to.
 use Rattle.std.specs.Prelude.{ℕ, ◌+◌, ◌≤◌, List, [], ◌∷◌, length}
 use Rattle.o2_world.specs.declared.types.Slot.{Slot}
-use Rattle.o2_world.specs.declared.types.Slot.TheVariants.{Word, Reads, Writes, Text, ToWord, ToLong, ToWords, Heap}
+use Rattle.o2_world.specs.declared.types.Slot.TheVariants.{Word, Long, Reads, Writes, Text, ToWord, ToLong, ToWords, Heap}
 use Rattle.o2_world.specs.Slots.{words_in}
 
 -- how many of the arguments are texts
 abbrev pub texts_at : Slot → ℕ
 texts_at Word = 0
+texts_at Long = 0
 texts_at Reads = 0
 texts_at Writes = 0
 texts_at Text = 1

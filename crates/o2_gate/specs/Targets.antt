@@ -1,7 +1,7 @@
 -- The pointers of a call on segments, and what it comes to.
 use Rattle.std.specs.Prelude.{ℕ, ◌+◌, ◌*◌, ◌-◌, false, true, List, [], ◌∷◌, ◌++◌}
 use Rattle.o2_world.specs.declared.types.Slot.{Slot}
-use Rattle.o2_world.specs.declared.types.Slot.TheVariants.{Word, Reads, Writes, Text, ToWord, ToLong, ToWords, Heap}
+use Rattle.o2_world.specs.declared.types.Slot.TheVariants.{Word, Long, Reads, Writes, Text, ToWord, ToLong, ToWords, Heap}
 use Rattle.o2_world.specs.Calls.{Before, Effect, row_of}
 use Rattle.o2_world.specs.Outcomes.{CallRow, come_out, ruled}
 use Rattle.o2_world.specs.SharedNames.{looked_at, name_most}
@@ -18,6 +18,7 @@ use Rattle.o2_gate.specs.Rows.{name_by, slots_by}
 -- the pointer that an argument is; of a text so many bytes are looked at
 abbrev pub target_at : Slot → (looked : ℕ) → (ℕ → ℕ) → (place : ℕ) → List Pointer
 target_at Word looked a n = []
+target_at Long looked a n = []
 target_at Reads looked a n = pointer false (a (n + 1)) (a n) (a (n - 1)) ∷ []
 target_at Writes looked a n = pointer true (a (n + 1)) (a n) (a (n - 1)) ∷ []
 target_at Text looked a n = pointer false (a (n + 1)) (a n) looked ∷ []

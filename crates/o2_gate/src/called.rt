@@ -18,4 +18,6 @@ pub enum Called {
     /// A call on segments that comes back to `next`: its arguments lie in SS, and its pointers are good. Nothing is changed, taken or
     /// put yet.
     Asked { arguments: Arguments, next: u16 },
+    /// It waits, and its process's next step is the same call: nothing is changed, taken or put.
+    Waits,
 }

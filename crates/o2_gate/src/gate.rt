@@ -1,5 +1,5 @@
 // The call of a service.
-ghost use Rattle.std.specs.Prelude.{◌≡◌, ◌≢◌, ◌≤◌, ◌⊎◌, ℕ, List, Option, Some, true};
+ghost use Rattle.std.specs.Prelude.{◌≡◌, ◌≢◌, ◌≤◌, ◌⊎◌, ℕ, List, Option, Some, false, true};
 ghost use Rattle.o2_outer.specs.Texts.{Rose};
 ghost use Rattle.o2_outer.specs.Inputs.{GoesOn, IsSeenAs, left_as};
 ghost use Rattle.o2_isa.specs.View.{Filling, IsBound};
@@ -13,6 +13,7 @@ ghost use Rattle.o2_world.specs.Slots.{pointers_in};
 ghost use Rattle.o2_gate.specs.Befores.{boundless, before_call, IsKnown};
 ghost use Rattle.o2_gate.specs.Called.{Does, OnAsked, OnMissed, OnUndone};
 ghost use Rattle.o2_gate.specs.Given.{IsTextIn, pointers_by, word_in};
+ghost use Rattle.o2_gate.specs.Heaps.{is_heap_call};
 ghost use Rattle.o2_gate.specs.Pointed.{IsAway, IsGoodTest, are_ready};
 ghost use Rattle.o2_gate.specs.Names.{TellsNames};
 ghost use Rattle.o2_gate.specs.Rows.{IsRowOf};
@@ -28,6 +29,7 @@ use crate::given::{Gathered, Given, gather};
 use crate::heap::serve_heap;
 use crate::read::read;
 use crate::row::Row;
+use crate::semaphore::serve_semaphore;
 use crate::table::row_of;
 use crate::told::{tell_avail, tell_pid};
 use crate::write::write;
@@ -38,8 +40,15 @@ use o2_outer::{Sink, Source};
 use o2_report::LineBuffer;
 use o2_run::Fault;
 
-/// A call that doesn't go to the input, with its arguments, whose pointers are good.
-fn serve<B: Ranges, C: Sink, R: Sink>(
+/// Whether a call is one on a heap inside a segment.
+fn is_on_heap(service: u16) -> bool
+    ensures { result ≡ is_heap_call service }
+{
+    20 <= service && service <= 22
+}
+
+/// A call that goes neither to the input, to a heap nor to a semaphore, with its arguments, whose pointers are good.
+fn serve_early<B: Ranges, C: Sink, R: Sink>(
     service: u16,
     next: u16,
     pid: u16,
@@ -93,6 +102,67 @@ fn serve<B: Ranges, C: Sink, R: Sink>(
     }
 }
 
+/// A call that goes neither to the input nor to a heap, with its arguments, whose pointers are good.
+fn serve<B: Ranges, C: Sink, R: Sink>(
+    service: u16,
+    next: u16,
+    pid: u16,
+    avail: u32,
+    row: &Row,
+    given: &Given,
+    cpu: &mut Cpu,
+    bus: &mut B,
+    line: &mut LineBuffer,
+    console: &mut C,
+    report: &mut R,
+) -> Result<Called, Fault>
+    requires first { 1 ≤ service }
+    requires last { service ≤ 28 }
+    requires other { service ≢ 3 }
+    requires no_heap { is_heap_call service ≡ false }
+    requires row { IsRowOf (row_there service) (Some row.now) }
+    requires test { IsGoodTest (B.view bus.old) (pointers_by row.now.slots.now (word_in given.now.words)) }
+    requires text { IsTextIn (B.view bus.old) (word_in given.now.words) given.now.text row.now.slots.now }
+    ensures does { (f : Filling) (bytes : List ℕ) (known : Known) (i : Option (List ℕ)) (r : CallRow)
+        → i ≡ Some bytes → known.avail ≡ avail → row_there service ≡ Some r
+        → let b = before_call (boundless f (B.view bus.old)) pid cpu.old bytes known in let a = word_in given.now.words in
+        Does f b (come_out r b next a (r.outcome b a)) cpu.new (B.view bus.old) (B.view bus.new)
+        i i (C.taken console.old) (C.taken console.new) (R.taken report.old) (R.taken report.new) result }
+    ensures frame { KeepsAllButBytes (B.view bus.old) (B.view bus.new) }
+    ensures writes { WritesHeld (B.view bus.old) (B.view bus.new) }
+    ensures selectors { SameSelectors cpu.old cpu.new }
+    ensures never { OnMissed result (λ s. ⊥) }
+    ensures still { OnUndone result ((cpu.new ≡ cpu.old) × (B.view bus.new ≡ B.view bus.old) × (console.new ≡ console.old) × (report.new ≡ report.old)) }
+    ensures aims { OnAsked result (λ a. (f : Filling)
+        → pointers_in row.now.slots.now (boundless f (B.view bus.old)) (word_in given.now.words) ≡ targets a) }
+    ensures no_console { service ≢ 4 → console.new ≡ console.old }
+    ensures console_count { C.faults console.old ≤ C.faults console.new }
+    ensures report_count { R.faults report.old ≤ R.faults report.new }
+    ensures cause { Caused (Rose (C.faults console.old) (C.faults console.new) ⊎ Rose (R.faults report.old) (R.faults report.new)) ⊥ ⊥ ⊥ result }
+    ensures puts { CallHands (counts (C.puts console.old) (C.puts console.new) (R.puts report.old) (R.puts report.new) 0) result }
+    ensures part { (f : Filling) (bytes : List ℕ) (known : Known) (r : CallRow) → known.avail ≡ avail → row_there service ≡ Some r
+        → let b = before_call (boundless f (B.view bus.old)) pid cpu.old bytes known in let a = word_in given.now.words in
+        PartHands (come_out r b next a (r.outcome b a))
+        (counts (C.puts console.old) (C.puts console.new) (R.puts report.old) (R.puts report.new) 0) result }
+{
+    if service >= 25 {
+        return serve_semaphore(
+            service,
+            next,
+            pid,
+            row,
+            &given.words,
+            cpu,
+            bus,
+            line,
+            report,
+        );
+    }
+    serve_early(
+        service, next, pid, avail, row, given, cpu, bus, line, console, report,
+    )
+}
+
 /// The call by process `pid` of a service, which comes back to `next`. It sees the segments of its process by the bus alone, whose four
 /// registers are those of `cpu`. A call on segments is asked for, and isn't made yet. No call takes memory.
 #[tactic(auto, using(o2_outer::proofs::Inputs::goes_same))]
@@ -131,7 +201,7 @@ pub fn call<B: Ranges, I: Source, C: Sink, R: Sink>(
     ensures names { (input : List ℕ) (known : Known) → IsBound (B.view bus.old)
         → TellsNames (B.view bus.old)
         (λ f. call_names (before_call (boundless f (B.view bus.old)) pid cpu.old input known) (row_there service)) result }
-    // Where one is missed, or a call on segments is asked for, nothing is changed, taken or put.
+    // Where one is missed, a call on segments is asked for, or the call waits, nothing is changed, taken or put.
     ensures still { OnUndone result ((cpu.new ≡ cpu.old) × (B.view bus.new ≡ B.view bus.old) × (input.new ≡ input.old) × (console.new ≡ console.old) × (report.new ≡ report.old)) }
     // The pointers of the call that is asked for are ready, and the names that it passes are behind them.
     ensures ready { OnAsked result (λ a. are_ready (B.view bus.old) (targets a) ≡ true) }
@@ -172,7 +242,7 @@ pub fn call<B: Ranges, I: Source, C: Sink, R: Sink>(
                     pid, next, &row, words, cpu, bus, line, buffer, input, report,
                 );
             }
-            if service >= 20 {
+            if is_on_heap(service) {
                 return serve_heap(
                     service,
                     next,

@@ -73,7 +73,7 @@ fn test_slot<B: Ranges>(
 {
     let count = count_at(words, place);
     match slot {
-        Slot::Word | Slot::Heap => Pointed::Good,
+        Slot::Word | Slot::Long | Slot::Heap => Pointed::Good,
         Slot::Reads => test(bus, false, words[place + 1], words[place], count),
         Slot::Writes => test(bus, true, words[place + 1], words[place], count),
         Slot::Text => test_text(bus, words[place + 1], words[place], text),

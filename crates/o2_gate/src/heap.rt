@@ -156,7 +156,7 @@ fn store_plan<B: Ranges>(bus: &mut B, selector: u16, slots: &[Slot], words: &[u1
 
 /// The call with an error, which changes nothing.
 #[tactic(auto, using(o2_outer::proofs::TextLemmas::gains_none, o2_outer::proofs::TextLemmas::puts_none))]
-fn refuse<R: Sink>(
+pub(crate) fn refuse<R: Sink>(
     pid: u16,
     next: u16,
     row: &Row,

@@ -26,6 +26,7 @@ fn shown_at(slot: Slot, words: &[u16; 6], place: usize) -> Argument
 {
     match slot {
         Slot::Word | Slot::Heap => Argument::Word(words[place]),
+        Slot::Long => Argument::Long(words[place + 1], words[place]),
         Slot::Reads => Argument::Far(words[place + 1], words[place]),
         Slot::Writes => Argument::Far(words[place + 1], words[place]),
         Slot::Text => Argument::Far(words[place + 1], words[place]),

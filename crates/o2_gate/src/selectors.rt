@@ -61,7 +61,7 @@ pub fn selectors_of(arguments: Arguments) -> Selectors
     for slot in slots {
         place -= words_of(*slot);
         match slot {
-            Slot::Word | Slot::Heap => {}
+            Slot::Word | Slot::Long | Slot::Heap => {}
             _ => all.push(arguments.words[place + 1]),
         }
     }

@@ -8,7 +8,7 @@ ghost use Rattle.o2_gate.specs.Targets.{name_of, slots_of};
 use crate::arguments::Arguments;
 use crate::row::{Row, made};
 use o2_world::Slot;
-use o2_world::Slot::{Heap, Reads, Text, ToLong, ToWord, ToWords, Word, Writes};
+use o2_world::Slot::{Heap, Long, Reads, Text, ToLong, ToWord, ToWords, Word, Writes};
 
 /// How many words an argument has.
 pub fn words_of(slot: Slot) -> usize
@@ -16,7 +16,7 @@ pub fn words_of(slot: Slot) -> usize
 {
     match slot {
         Word | Heap => 1,
-        Reads | Writes | Text | ToWord | ToLong | ToWords(_) => 2,
+        Long | Reads | Writes | Text | ToWord | ToLong | ToWords(_) => 2,
     }
 }
 
@@ -36,7 +36,7 @@ pub fn word_count(slots: &[Slot]) -> usize
 #[tactic(auto, unfolding(o2_world::specs::Calls::row_of))]
 pub fn row_of(service: u16) -> Option<Row>
     ensures row { IsRowOf (row_there service) result }
-    ensures known { IfSome result (λ row. (1 ≤ service) × (service ≤ 22)) }
+    ensures known { IfSome result (λ row. (1 ≤ service) × (service ≤ 28)) }
 {
     match service {
         1 => Some(made(b"DosExit", &[Word, Word])),
@@ -61,6 +61,10 @@ pub fn row_of(service: u16) -> Option<Row>
         20 => Some(made(b"DosSubSet", &[Heap, Word, Word])),
         21 => Some(made(b"DosSubAlloc", &[Heap, ToWord, Word])),
         22 => Some(made(b"DosSubFree", &[Heap, Word, Word])),
+        25 => Some(made(b"DosSemRequest", &[ToWords(2), Long])),
+        26 => Some(made(b"DosSemClear", &[ToWords(2)])),
+        27 => Some(made(b"DosSemWait", &[ToWords(2), Long])),
+        28 => Some(made(b"DosSemSet", &[ToWords(2)])),
         _ => None,
     }
 }

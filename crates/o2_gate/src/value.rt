@@ -34,7 +34,7 @@ pub(crate) fn store_word<B: Ranges>(bus: &mut B, words: &[u16; 6], place: usize,
 }
 
 /// Writes four bytes behind the pointer at a place, the low word first.
-fn store_long<B: Ranges>(bus: &mut B, words: &[u16; 6], place: usize, value: u32)
+pub(crate) fn store_long<B: Ranges>(bus: &mut B, words: &[u16; 6], place: usize, value: u32)
     requires inside { place + 2 ≤ 6 }
     requires ready { is_ready is_writable (B.view bus.old) (word_in words.now (place + 1)) (word_in words.now place) 4 ≡ true }
     ensures bytes { (f : Filling) (n : ℕ) → (whole f (B.view bus.new)).bytes n
@@ -70,6 +70,7 @@ fn store_at<B: Ranges>(bus: &mut B, slot: Slot, words: &[u16; 6], place: usize, 
         Slot::ToWord => store_word(bus, words, place, value as u16),
         Slot::ToLong => store_long(bus, words, place, value),
         Slot::Word => {}
+        Slot::Long => {}
         Slot::Reads => {}
         Slot::Text => {}
         Slot::Writes => {}

@@ -1,7 +1,7 @@
 -- What one call of a sequence keeps, and what all keep.
 use Rattle.std.proofs.Common.{◌≡◌, ◌≢◌, ℕ, Bool, true, false, not, ◌||◌, ◌==◌, if◌then◌else◌, List, [], ◌∷◌, refl, sym, ap, subst, ◌∙◌, arith}
 use Rattle.std.proofs.lemmas.Bool.Decides.{nat_tests}
-use Rattle.o2_ramsem.specs.Rulings.{SemRuling, Becomes, Waiting, Refuses, wanting}
+use Rattle.o2_world.specs.SemRulings.{SemRuling, Becomes, Waiting, Refuses, wanting}
 use Rattle.o2_ramsem.specs.Calls.{SemCall, Requests, Clears, Awaits, Sets, ruling_at, number_behind, number_after, lines_of, owner_of_line, owner, IsGranted, granted, HasClear, IsQuietLine, AreQuiet}
 
 -- what a call does that wants a clear semaphore, by its tests

@@ -1,6 +1,6 @@
 -- Calls on one semaphore, one after the other, and who owns it.
 use Rattle.std.specs.Prelude.{◌≡◌, ◌≢◌, ◌⊎◌, ℕ, List, [], ◌∷◌}
-use Rattle.o2_ramsem.specs.Rulings.{SemRuling, Becomes, Waiting, Refuses, requesting, waiting_for}
+use Rattle.o2_world.specs.SemRulings.{SemRuling, Becomes, Waiting, Refuses, requesting, waiting_for}
 
 -- a call of a process, which has this number, with its timeout
 pub data SemCall : Type 0 where

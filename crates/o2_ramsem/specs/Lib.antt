@@ -1,3 +1,2 @@
-pub mod Rulings
 pub mod Ruled
 pub mod Calls

@@ -1,6 +1,6 @@
 // What holds over any calls on one semaphore, by any processes.
 ghost use Rattle.std.specs.Prelude.{◌≡◌, ◌==◌, ℕ, List, ◌∷◌, if◌then◌else◌};
-ghost use Rattle.o2_ramsem.specs.Rulings.{SemRuling, Becomes, Refuses, Waiting, requesting, waiting_for};
+ghost use Rattle.o2_world.specs.SemRulings.{SemRuling, Becomes, Refuses, Waiting, requesting, waiting_for};
 ghost use Rattle.o2_ramsem.specs.Calls.{AreQuiet, Clears, HasClear, IsGranted, IsTimeout, SemCall, lines_of, number_after, owner};
 
 /// Behind any calls on a semaphore that was clear, its number is the owner that the lines tell.

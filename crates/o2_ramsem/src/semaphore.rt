@@ -1,6 +1,6 @@
 // What each call on a semaphore does.
 ghost use Rattle.std.specs.Prelude.{◌≡◌};
-ghost use Rattle.o2_ramsem.specs.Rulings.{requesting, waiting_for, wanting};
+ghost use Rattle.o2_world.specs.SemRulings.{requesting, waiting_for, wanting};
 ghost use Rattle.o2_ramsem.specs.Ruled.{ruled};
 
 /// The timeout is neither 0 nor `FOREVER`; the number that DosSemRequest and DosSemWait answer then.

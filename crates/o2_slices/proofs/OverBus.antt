@@ -1,13 +1,15 @@
 -- Steps that are done at once, from the view of a bus to store and tables.
-use Rattle.std.proofs.Common.{◌≡◌, ℕ, ◌≤◌, length, suc, ◌+◌, true, false, List, Option, Some, ap, sym, ◌∙◌, refl, subst, arith}
-use Rattle.std.specs.Prelude.{Result, Ok}
+use Rattle.std.proofs.Common.{◌≡◌, ℕ, ◌≤◌, length, zero, suc, ◌+◌, ◌-◌, true, false, List, Option, Some, ap, sym, ◌∙◌, refl, subst, arith}
+use Rattle.std.specs.Prelude.{Result, Ok, Err}
 use Rattle.o2_outer.proofs.TextLemmas.{gains_none}
 use Rattle.o2_isa.specs.declared.cpu.Cpu.{Cpu}
 use Rattle.o2_isa.specs.declared.cpu.Outcome.{Outcome}
 use Rattle.o2_isa.specs.declared.cpu.Outcome.TheVariants as outcome
 use Rattle.o2_isa.specs.declared.cpu.Stop.{Stop}
+use Rattle.o2_isa.specs.declared.cpu.Stop.TheVariants as stop
 use Rattle.o2_isa.specs.View.{Agrees, Filling, Hold, IsBound, KeepsFrame, View, bound_registers, built_gates, no_hidden, no_rest, whole}
-use Rattle.o2_isa.specs.Step.{Answers, AsBoundless}
+use Rattle.o2_isa.specs.Presence.{whole_state}
+use Rattle.o2_isa.specs.Step.{Answers, AsBoundless, step_names}
 use Rattle.o2_isa.specs.Steps.{State as Machine, state}
 use Rattle.o2_isa.specs.Writes.{WritesData}
 use Rattle.o2_regions.specs.Maps.{IsProcess, Maps}
@@ -22,18 +24,20 @@ use Rattle.o2_segbus.proofs.Attempts.{still}
 use Rattle.o2_segbus.proofs.Called.{held_data, leaves}
 use Rattle.o2_stands.specs.Stands.{AreLawful}
 use Rattle.o2_world.specs.Known.{Known}
-use Rattle.o2_world.specs.Calls.{Before, Effect}
-use Rattle.o2_world.specs.Effect.{answered, effect, has_trap_flag}
+use Rattle.o2_world.specs.CallParts.{waiting}
+use Rattle.o2_world.specs.Calls.{Before, Effect, row_of, serviced}
+use Rattle.o2_world.specs.Effect.{answered, effect, has_trap_flag, single_stepped}
 use Rattle.o2_gate.specs.Befores.{before_call, boundless}
 use Rattle.o2_gate.specs.Pointed.{ArePresent}
-use Rattle.o2_run.specs.Room.{touched}
+use Rattle.o2_run.specs.Room.{call_names, touched}
 use Rattle.o2_stepping.specs.Ran.{IsDone}
 use Rattle.o2_slices.specs.Slices.{AreSteps, Follows, IsStep, IsTry, Seat, quiet, seat}
 use Rattle.o2_stepping.specs.Worlds.{bytes_with, world_view}
 use Rattle.o2_stepping.proofs.Buses.{boundless_is, bytes_there, filling, present_there}
-use Rattle.o2_stepping.proofs.Gates.{done_boundless}
+use Rattle.o2_stepping.proofs.Gates.{done_boundless, gate_boundless, whole_same}
 use Rattle.o2_stepping.proofs.Keeping.{marks_hold}
-use Rattle.o2_stepping.proofs.Leaving.{effect_by, without_flag}
+use Rattle.o2_stepping.proofs.Leaving.{effect_by, waited, without_flag}
+use Rattle.o2_stepping.proofs.Touches.{call_present}
 use Rattle.o2_stepping.proofs.Worlds.{same_map}
 
 -- what doesn't complete changes nothing
@@ -62,6 +66,35 @@ done_quietly f v w c d number bytes known x r clear done =
       to_console = gains_none x;
       to_report = gains_none r;
     })
+
+-- A call that waits, told from the machine s before its far CALL, which changes nothing.
+module _ (f : Filling) (number : ℕ) (bytes : List ℕ) (known : Known) (service next : ℕ) where
+  abbrev pub waits_at : Machine → Type 0
+  waits_at s = let b = before_call (boundless f s.view) number s.cpu bytes known in serviced b service next ≡ waiting b
+
+  abbrev pub names_at : Machine → Type 0
+  names_at s = ArePresent s.view (call_names (before_call (boundless f s.view) number s.cpu bytes known) (row_of service))
+
+  module _ (v w : View) (c d : Cpu) (gate : AsBoundless f (outcome.Gate service next) (state d w) (state c v)) (same : state d w ≡ state c v) where
+    pub waits_quietly : (u : View) (x r : Option (List ℕ)) → u ≡ w → waits_at (state d w)
+        → IsDone (effect (before_call (boundless f v) number c bytes known)) quiet d (whole f u).bytes (Some bytes) x x r r
+    waits_quietly u x r alike waits =
+        let b : Before = before_call (boundless f v) number c bytes known in
+        let there : serviced b service next ≡ waiting b = subst waits_at same waits in
+        waited b (effect b) (effect_by b (Err (stop.Gate service next)) (gate_boundless f v w c d service next gate) ∙ ap (λ (e : Effect). single_stepped b e) there)
+        d (whole f v).bytes (whole f u).bytes (Some bytes) (Some bytes) x x r r (λ n. refl) refl
+        (record {
+          cpu = ap (λ (s : Machine). s.cpu) same;
+          bytes = whole_same f v u (alike ∙ ap (λ (s : Machine). s.view) same);
+          input = refl;
+          to_console = refl;
+          to_report = refl;
+        })
+
+    pub waits_present : ArePresent v (step_names (whole_state f (state c v))) → names_at (state d w)
+        → ArePresent v (touched (before_call (boundless f v) number c bytes known))
+    waits_present loads named =
+        call_present f v c number bytes known service next (gate_boundless f v w c d service next gate) loads (subst names_at same named)
 
 -- What a process sees hangs on what it holds, whatever its number.
 
@@ -161,3 +194,28 @@ one_more pid k a b d steps step = subst (λ (n : ℕ). AreSteps pid n a d) (next
   where
     next : (n : ℕ) → suc n ≡ n + 1
     next n = omega arith
+
+-- A step that left all as it was, from there.
+module _ (a b : SegBus) (pid : ℕ) (c d : Cpu) (cpu : d ≡ c) (view : view_of b ≡ view_of a) (f : Filling) (bytes : List ℕ) (known : Known) where
+  pub done_again : (x r : Option (List ℕ)) → IsDone (effect (before_call (boundless f (view_of a)) pid c bytes known)) quiet d (whole f (view_of b)).bytes (Some bytes) x x r r
+      → IsDone (effect (before_call (boundless f (view_of b)) pid d bytes known)) quiet d (whole f (view_of b)).bytes (Some bytes) x x r r
+  done_again x r h =
+      subst (λ (z : Cpu). IsDone (effect (before_call (boundless f (view_of b)) pid z bytes known)) quiet d (whole f (view_of b)).bytes (Some bytes) x x r r) (sym cpu)
+      (subst (λ (v : View). IsDone (effect (before_call (boundless f v) pid c bytes known)) quiet d (whole f (view_of b)).bytes (Some bytes) x x r r) (sym view) h)
+
+  pub present_again : ArePresent (view_of a) (touched (before_call (boundless f (view_of a)) pid c bytes known))
+      → ArePresent (view_of b) (touched (before_call (boundless f (view_of b)) pid d bytes known))
+  present_again h =
+      subst (λ (z : Cpu). ArePresent (view_of b) (touched (before_call (boundless f (view_of b)) pid z bytes known))) (sym cpu)
+      (subst (λ (v : View). ArePresent v (touched (before_call (boundless f v) pid c bytes known))) (sym view) h)
+
+-- Steps up to so many, where the next one leaves all as it is.
+pub as_often : (pid : ℕ) (a b : Seat) → IsStep pid b b → (k n : ℕ) → AreSteps pid k a b → k ≤ n → AreSteps pid n a b
+as_often pid a b again k n steps within = go (n - k) n (omega (arith, within))
+  where
+    go : (j m : ℕ) → m ≡ j + k → AreSteps pid m a b
+    go zero m e = let is : k ≡ m = omega (arith, e) in subst (λ (i : ℕ). AreSteps pid i a b) is steps
+    go (suc j) m e =
+        let before : m - 1 ≡ j + k = omega (arith, e) in
+        let is : m - 1 + 1 ≡ m = omega (arith, e) in
+        subst (λ (i : ℕ). AreSteps pid i a b) is (one_more pid (m - 1) a b b (go j (m - 1) before) again)

@@ -1,5 +1,5 @@
 -- Steps of a process that are done at once, one behind another, over what is in memory.
-use Rattle.std.specs.Prelude.{◌≡◌, ◌≤◌, ◌⊎◌, ℕ, zero, suc, true, List, length, Option, Some}
+use Rattle.std.specs.Prelude.{◌≡◌, ◌≤◌, ◌⊎◌, ℕ, zero, suc, Bool, true, false, List, length, Option, Some}
 use Rattle.o2_isa.specs.declared.cpu.Cpu.{Cpu}
 use Rattle.o2_regions.specs.Maps.{Maps}
 use Rattle.o2_place.specs.Layout.{len_of, over, used}
@@ -16,6 +16,8 @@ use Rattle.o2_run.specs.Room.{touched}
 use Rattle.o2_stepping.specs.Ran.{IsDone}
 use Rattle.o2_stepping.specs.Worlds.{bytes_with, world_view}
 use Rattle.o2_stepping.specs.declared.one_step.Ran.{Ran}
+use Rattle.o2_slices.specs.declared.steps.AtOnce.{AtOnce}
+use Rattle.o2_slices.specs.declared.steps.AtOnce.TheVariants.{Done, Waits, Undone}
 
 -- what a step works on: the store, the tables of processes, and the registers
 pub record Seat : Type 0 where
@@ -29,6 +31,18 @@ seat s m c = record { shelf = s; maps = m; cpu = c }
 -- a step that its process outlives, and that puts nothing
 abbrev pub quiet : Ran
 quiet = record { state = Live; tally = record { bytes = 0; lines = 0 }; whole = true }
+
+-- a step is done at once, as an instruction or as a call that waits
+abbrev pub is_step : AtOnce → Bool
+is_step Done = true
+is_step Waits = true
+is_step Undone = false
+
+-- registers and bytes are as they were
+abbrev pub is_still : AtOnce → Bool
+is_still Done = false
+is_still Waits = true
+is_still Undone = true
 
 -- what a step of process pid, or a try of one, leaves of store and tables
 pub record Follows (pid : ℕ) (a b : Seat) : Type 0 where

@@ -17,7 +17,8 @@ use o2_stands::lawful;
 use o2_world::State;
 
 /// Steps of a process that lives, so many at most, which are done at once one behind another; how many. They end before a step
-/// that isn't done at once, as it misses a segment, calls a service or raises an exception, and where the trap flag is set.
+/// that isn't done at once, as it misses a segment, raises an exception, or calls a service and doesn't wait, and where the trap flag
+/// is set. Where one waits, all that are left do, and they take no more time than one.
 pub fn slice_of(space: &mut Space, pid: u16, most: u32) -> u32
     requires some { 1 ≤ pid }
     requires there { pid ≤ length space.old.procs.items }

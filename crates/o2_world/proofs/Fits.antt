@@ -5,7 +5,7 @@ use Rattle.std.proofs.lemmas.Grind.{common_steps}
 use Rattle.o2_isa.specs.View.{View, Hold, is_writable, bound_in}
 use Rattle.o2_isa.specs.Pointers.{has_range, is_for_es, is_good, range_in, range_of}
 use Rattle.o2_world.specs.declared.types.Slot.{Slot}
-use Rattle.o2_world.specs.declared.types.Slot.TheVariants.{Word, Reads, Writes, Text, ToWord, ToLong, ToWords, Heap}
+use Rattle.o2_world.specs.declared.types.Slot.TheVariants.{Word, Long, Reads, Writes, Text, ToWord, ToLong, ToWords, Heap}
 use Rattle.o2_world.specs.CallParts.{Before, may_read, may_write}
 use Rattle.o2_world.specs.SharedNames.{text_size}
 use Rattle.o2_world.specs.Slots.{are_good, is_for_writing, may_have_heap, parts_in, pointers_in, targets_in, words_in}
@@ -64,6 +64,7 @@ rest_good v ss a count good = let n = words_in ss in (both (may_read v (a (n + 1
 -- each pointer that is for writing is one behind which the value goes
 abbrev is_of_value : Slot → Bool
 is_of_value Word = true
+is_of_value Long = true
 is_of_value Reads = true
 is_of_value Writes = false
 is_of_value Text = true
@@ -80,6 +81,7 @@ pub value_fits : (v : View) (ss : List Slot) (a : ℕ → ℕ) (value : ℕ) →
     → AreFitParts v.held v.bytes (targets_in ss a) (parts_in ss value)
 value_fits v [] a value e good = tt
 value_fits v (Word ∷ ss) a value e good = value_fits v ss a value e good
+value_fits v (Long ∷ ss) a value e good = value_fits v ss a value e good
 value_fits v (Reads ∷ ss) a value e good = value_fits v ss a value e (rest_good v ss a (a (words_in ss - 1)) good)
 value_fits v (Writes ∷ ss) a value e good = absurd (cc)
 value_fits v (Text ∷ ss) a value e good = let n = words_in ss in value_fits v ss a value e (rest_good v ss a (text_size v (a (n + 1)) (a n)) good)

@@ -56,8 +56,3 @@ pub flags_after : (ps : List Process) (flags : List Bool) (n : ℕ) (p : Process
 flags_after ps flags n p e same there is =
     let here : slice_index_or flags (n - 1) false ≡ true = grind arith in
     ap live_flags (with_is ps n (process_after p e) (lives_some flags n there)) ∙ rw (flags_set ps (n - 1) (process_after p e), state_after p e true is, same) (set_same flags (n - 1) here)
-
-pub flags_ended : (ps : List Process) (flags : List Bool) (n : ℕ) (p : Process) (e : Effect) → 0 < n → live_flags ps ≡ flags
-    → is_live e.state ≡ false
-    → live_flags (with_process ps n (process_after p e)) ≡ slice_set flags (n - 1) false
-flags_ended ps flags n p e some same is = ap live_flags (with_is ps n (process_after p e) some) ∙ rw (flags_set ps (n - 1) (process_after p e), state_after p e false is, same) refl

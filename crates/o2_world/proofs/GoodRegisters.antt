@@ -1,5 +1,5 @@
 -- A step leaves good registers to a process that outlives it.
-use Rattle.std.proofs.Common.{◌≡◌, ◌⊎◌, ℕ, ◌/◌, ◌%◌, Bool, true, false, cond, ◌==◌, ◌&&◌, List, [], Option, Some, None, ap, sym, ◌∙◌, refl, arith, subst, inl, inr, drop, take}
+use Rattle.std.proofs.Common.{◌≡◌, ◌⊎◌, ℕ, ◌/◌, ◌%◌, Bool, true, false, not, cond, ◌==◌, ◌&&◌, List, [], Option, Some, None, ap, sym, ◌∙◌, refl, arith, subst, inl, inr, drop, take}
 use Rattle.std.proofs.Math.Seq.{drop-nil}
 use Rattle.std.specs.Prelude.{Result, Ok, Err, option_map, if◌then◌else◌}
 use Rattle.o2_isa.specs.declared.cpu.Cpu.{Cpu}
@@ -18,15 +18,14 @@ use Rattle.o2_isa.specs.Step.{stepped, steps_at}
 use Rattle.o2_isa.proofs.SpelledLoads.{stepped_ruled}
 use Rattle.o2_world.specs.declared.types.State.{State}
 use Rattle.o2_world.specs.Map.{Map, get}
-use Rattle.o2_world.specs.World.{World, Setting, Process, Segment, Held, is_live}
+use Rattle.o2_world.specs.World.{Process, Segment, Held, is_live}
 use Rattle.o2_world.specs.Views.{hold_of, holds_in, view_of}
 use Rattle.o2_world.specs.CallParts.{Before, Effect, returned, trapped}
 use Rattle.o2_world.specs.Slots.{words_in}
-use Rattle.o2_world.specs.Outcomes.{CallRow, Does, Fails, Leaves, Outcome, come_out, gone_indexes}
+use Rattle.o2_world.specs.Outcomes.{CallRow, Does, Fails, Waits, Leaves, Outcome, come_out, gone_indexes}
 use Rattle.o2_world.specs.Calls.{row_of, served_by}
 use Rattle.o2_world.specs.HugeRulings.{names_one, without}
 use Rattle.o2_world.specs.Effect.{has_trap_flag, answered, single_stepped, effect}
-use Rattle.o2_world.specs.Run.{before}
 use Rattle.o2_world.specs.Sound.{has_rights, NamesHeld, HasGoodRegisters}
 use Rattle.o2_world.proofs.Serving.{by_row}
 
@@ -136,6 +135,7 @@ come_ruled : (r : CallRow) (b : Before) (next : ℕ) (a : ℕ → ℕ) (o : Outc
 come_ruled r b next a (Fails error values) = kept_ruled b.view b.cpu _ (returns b (come_out r b next a (Fails error values)) next (words_in r.slots) error refl)
 come_ruled r b next a (Does d) =
     without_ruled b.view b.cpu (returned b.cpu next (words_in r.slots) 0) (gone_indexes b.known d.changes) (record { es = refl; cs = refl; ss = refl; ds = refl })
+come_ruled r b next a Waits = kept_ruled b.view b.cpu _ (at_same b (come_out r b next a Waits) refl)
 come_ruled r b next a (Leaves action code) = kept_ruled b.view b.cpu _ (at_same b (come_out r b next a (Leaves action code)) refl)
 
 pub served_ruled : (o : Option CallRow) (b : Before) (next : ℕ) → LoadsByRules b.view b.cpu (served_by o b next).cpu
@@ -155,7 +155,7 @@ picked_ruled v c true e f h k = h
 picked_ruled v c false e f h k = k
 
 single_ruled : (b : Before) (e : Effect) → LoadsByRules b.view b.cpu e.cpu → LoadsByRules b.view b.cpu (single_stepped b e).cpu
-single_ruled b e h = picked_ruled b.view b.cpu (has_trap_flag b.cpu.flags && is_live e.state) _ e h h
+single_ruled b e h = picked_ruled b.view b.cpu (has_trap_flag b.cpu.flags && (is_live e.state && not e.waits)) _ e h h
 
 -- a step's registers are as before or loaded by their rules
 pub effect_ruled : (b : Before) → LoadsByRules b.view b.cpu (effect b).cpu
@@ -164,31 +164,8 @@ effect_ruled b = single_ruled b (answered b (stepped (state b.cpu b.view))) (ans
 
 -- A process that holds nothing has no code, and its step is a trap.
 
-nothing_bound : (n l : Bool) → ◌≡◌ {A = Option Hold} (cond n None (cond l None None)) None
-nothing_bound true l = refl
-nothing_bound false true = refl
-nothing_bound false false = refl
-
 no_bytes : (v : View) (c : Cpu) → v.registers.cs ≡ None → stepped (state c v) ≡ Err (stop.Trap 13 0)
 unfolding stepped fetched decoded
 no_bytes v c none =
     let empty : take 10 (drop c.ip (hold_bytes v v.registers.cs)) ≡ [] = ap (λ (o : Option Hold). take 10 (drop c.ip (hold_bytes v o))) none ∙ ap (take 10) (drop-nil c.ip) in
     ap (λ (bs : List ℕ). run (steps_at c (decoded bs)) v) empty
-
-not_stepped : (t l : Bool) (e f : Effect) → l ≡ false → is_live f.state ≡ false → is_live (cond (t && l) e f).state ≡ false
-not_stepped true true e f ends h = cc
-not_stepped true false e f ends h = h
-not_stepped false l e f ends h = h
-
-trap_ends : (b : Before) → is_live (single_stepped b (trapped b 13)).state ≡ false
-trap_ends b = not_stepped (has_trap_flag b.cpu.flags) false _ (trapped b 13) refl refl
-
-pub nothing_lives : (b : Before) → b.view.registers.cs ≡ None → is_live (effect b).state ≡ false
-unfolding effect
-nothing_lives b none = subst (λ (r : Result Machine Stop). is_live (single_stepped b (answered b r)).state ≡ false) (sym (no_bytes b.view b.cpu none)) (trap_ends b)
-
-pub ended_effect : (s : Setting) (w : World) (n : ℕ) (p : Process) → p.held ≡ [] → is_live (effect (before s w n p)).state ≡ false
-ended_effect s w n p none = nothing_lives (before s w n p) bound
-  where
-    bound : (view_of w.names p).registers.cs ≡ None
-    bound = subst (λ (m : Map Held). cond (is_null p.cpu.cs) None (cond (is_local p.cpu.cs) (holds_in m (p.cpu.cs / 8)) None) ≡ None) (sym none) (nothing_bound (is_null p.cpu.cs) (is_local p.cpu.cs))

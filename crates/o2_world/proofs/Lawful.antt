@@ -2,18 +2,19 @@
 use Rattle.std.proofs.Common.{◌≡◌, ◌≤◌, ◌==◌, ◌&&◌, ℕ, Bool, true, false, cond, List, [], ◌∷◌, length, take, refl, arith}
 use Rattle.std.proofs.lemmas.Grind.{common_steps}
 use Rattle.o2_isa.specs.declared.cpu.Cpu.{Cpu}
-use Rattle.o2_isa.specs.View.{View}
+use Rattle.o2_isa.specs.View.{View, is_writable}
 use Rattle.o2_world.specs.declared.types.Slot.{Slot}
 use Rattle.o2_world.specs.declared.types.Slot.TheVariants.{Word, Reads, ToWord, ToWords, Heap}
 use Rattle.o2_world.specs.CallParts.{Before, word_bytes}
 use Rattle.o2_world.specs.Rulings.{Ruling, grants}
 use Rattle.o2_world.specs.HugeRulings.{huge_shift}
 use Rattle.o2_world.specs.HeapRulings.{HeapRuling, giving_back, setting_up, taking}
-use Rattle.o2_world.specs.Slots.{Pointer, are_good, may_have_heap, pointers_in, targets_in, words_in}
-use Rattle.o2_world.specs.Outcomes.{Outcome, row, ruled}
-use Rattle.o2_world.specs.Calls.{exiting, heap_bytes, is_console, on_heap, read_slots, reading, rows, telling_pid, writing}
+use Rattle.o2_world.specs.Slots.{Pointer, are_good, may_have_heap, pointer_at, pointers_in, targets_in, words_in}
+use Rattle.o2_world.specs.Outcomes.{CallRow, Outcome, row, ruled}
+use Rattle.o2_world.specs.SemRulings.{SemRuling, Becomes, Refuses, Waiting}
+use Rattle.o2_world.specs.Calls.{by_semaphore, exiting, heap_bytes, is_console, nothing_written, number_written, on_heap, read_slots, reading, rows, telling_pid, wanted_slots, writing}
 use Rattle.o2_world.specs.Moves.{AllMoves, NoneMoves, OwnMoves}
-use Rattle.o2_world.specs.RowLaws.{AreFitParts, EachRow, IsFitOutcome, IsLawful, OutcomeMoves, RuledMoves}
+use Rattle.o2_world.specs.RowLaws.{AreFitParts, EachRow, IsFitOutcome, IsLawful, OutcomeMoves, RuledMoves, fits_at}
 use Rattle.o2_world.proofs.Fits.{are_of_value, fewer_fit, first_fits, heap_fits, value_fits}
 use Rattle.o2_world.proofs.HeapSizes.{KeepsCount, giving_count, setting_count, taking_count}
 use Rattle.o2_world.proofs.SegmentMoves.{aliasing_is, allocation_is, freeing_by_is, locking_is, reallocation_is, sizing_is, unlocking_is}
@@ -92,6 +93,40 @@ by_its_heap name ss ruling e keeps =
           either_moves b c (may_have_heap b.view s) _ _ (either_moves b c (r.error == 0) _ _ (nothing b c) tt) tt;
     }
 
+-- the rows of semaphores: what is written is four bytes or nothing
+
+no_part_fits : (v : View) (ps : List Pointer) → AreFitParts v.held v.bytes ps []
+no_part_fits v [] = tt
+no_part_fits v (p ∷ ps) = tt
+
+number_fits : (b : Before) (p : Pointer) (ps : List Pointer) (r : SemRuling) → fits_at b.view.held b.view.bytes p.selector p.offset 4 ≡ true
+    → IsFitOutcome b.view (p ∷ ps) (by_semaphore number_written b r)
+number_fits b p ps (Becomes number) fit = (fit, no_part_fits b.view ps)
+number_fits b p ps Waiting fit = tt
+number_fits b p ps (Refuses error) fit = tt
+
+nothing_fits : (b : Before) (ps : List Pointer) (r : SemRuling) → IsFitOutcome b.view ps (by_semaphore nothing_written b r)
+nothing_fits b ps (Becomes number) = no_part_fits b.view ps
+nothing_fits b ps Waiting = tt
+nothing_fits b ps (Refuses error) = tt
+
+semaphore_moves : (written : ℕ → List (List ℕ)) (b : Before) (c : Cpu) (r : SemRuling) → OutcomeMoves b c (by_semaphore written b r)
+semaphore_moves written b c (Becomes number) = nothing b c
+semaphore_moves written b c Waiting = tt
+semaphore_moves written b c (Refuses error) = tt
+
+by_number : (name : List ℕ) (ss : List Slot) (ruling : Before → (ℕ → ℕ) → SemRuling) → IsLawful (row name (ToWords 2 ∷ ss) (λ b a. by_semaphore number_written b (ruling b a)))
+by_number name ss ruling = record {
+  fits = λ b a good. number_fits b (pointer_at a (words_in ss) 4 is_writable) (targets_in ss a) (ruling b a) (first_fits b.view ss a 4 good).0;
+  moves = λ b a c same. semaphore_moves number_written b c (ruling b a);
+}
+
+by_wait : (name : List ℕ) (ruling : Before → (ℕ → ℕ) → SemRuling) → IsLawful (row name wanted_slots (λ b a. by_semaphore nothing_written b (ruling b a)))
+by_wait name ruling = record {
+  fits = λ b a good. nothing_fits b (targets_in wanted_slots a) (ruling b a);
+  moves = λ b a c same. semaphore_moves nothing_written b c (ruling b a);
+}
+
 -- in the order of the table
 pub lawful : EachRow IsLawful rows
 lawful = (
@@ -136,7 +171,7 @@ lawful = (
                                         by_its_heap _ (Word ∷ Word ∷ []) (λ a. setting_up (a 1) (a 0)) refl (λ a. setting_count (a 1) (a 0)),
                                         (
                                           by_its_heap _ (ToWord ∷ Word ∷ []) (λ a. taking (a 0)) refl (λ a. taking_count (a 0)),
-                                          (by_its_heap _ (Word ∷ Word ∷ []) (λ a. giving_back (a 1) (a 0)) refl (λ a. giving_count (a 1) (a 0)), tt),
+                                          (by_its_heap _ (Word ∷ Word ∷ []) (λ a. giving_back (a 1) (a 0)) refl (λ a. giving_count (a 1) (a 0)), (by_number _ _ _, (by_number _ _ (λ b a. Becomes 0), (by_wait _ _, (by_number _ _ (λ b a. Becomes 0xFFFF), tt))))),
                                         ),
                                       ),
                                     ),

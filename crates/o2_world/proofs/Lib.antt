@@ -40,6 +40,7 @@ pub mod OpeningTied
 pub mod OpeningTold
 pub mod Openings
 pub mod StepSound
+pub mod Waits
 pub mod Telling
 pub mod StepTold
 pub mod RunsTold

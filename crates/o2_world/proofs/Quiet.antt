@@ -1,5 +1,5 @@
 -- Steps that change nothing but bytes.
-use Rattle.std.proofs.Common.{◌≡◌, ℕ, zero, suc, ◌-◌, Bool, true, false, cond, if◌then◌else◌, ◌==◌, ◌&&◌, List, [], ◌∷◌, Option, ap, ◌∙◌, refl, slice_set}
+use Rattle.std.proofs.Common.{◌≡◌, ℕ, zero, suc, ◌-◌, Bool, true, false, cond, if◌then◌else◌, ◌==◌, List, [], ◌∷◌, Option, ap, ◌∙◌, refl, slice_set}
 use Rattle.o2_conf.specs.Dispatch.{Dispatch}
 use Rattle.o2_world.specs.World.{World, Process, is_live}
 use Rattle.o2_world.specs.Holders.{with_process}
@@ -8,10 +8,10 @@ use Rattle.o2_world.specs.declared.types.Slot.{Slot}
 use Rattle.o2_world.specs.CallParts.{Before, Effect, argument}
 use Rattle.o2_world.specs.Slots.{may_have_heap}
 use Rattle.o2_world.specs.HeapRulings.{HeapRuling, giving_back, setting_up, taking}
-use Rattle.o2_world.specs.Outcomes.{CallRow, Does, Fails, Leaves, Outcome, come_out, served}
-use Rattle.o2_world.specs.Calls.{alloc_slots, free_slots, giving_to_heap, heap_bytes, is_console, on_heap, reading, served_by, set_slots, setting_heap, taking_of_heap, writing}
+use Rattle.o2_world.specs.Outcomes.{CallRow, Does, Fails, Waits, Leaves, Outcome, come_out, served}
+use Rattle.o2_world.specs.SemRulings.{SemRuling, Becomes, Refuses, Waiting, requesting, waiting_for}
+use Rattle.o2_world.specs.Calls.{alloc_slots, by_semaphore, free_slots, giving_to_heap, heap_bytes, is_console, nothing_written, number_written, on_heap, reading, requesting_semaphore, semaphore_at, served_by, set_slots, setting_heap, taking_of_heap, timeout_in, waiting_for_semaphore, writing}
 use Rattle.o2_world.specs.RowLaws.{ErrorChangesNothing, IsQuiet, changes_of}
-use Rattle.o2_world.specs.Effect.{has_trap_flag, single_stepped}
 use Rattle.o2_world.specs.Run.{changed, plainly, worked}
 use Rattle.o2_world.proofs.Serving.{by_parts, by_row}
 
@@ -47,6 +47,7 @@ either false e f h k = k
 pub changes_come : (r : CallRow) (b : Before) (next : ℕ) (a : ℕ → ℕ) (o : Outcome) → (come_out r b next a o).changes ≡ changes_of o
 changes_come r b next a (Fails error values) = refl
 changes_come r b next a (Does d) = refl
+changes_come r b next a Waits = refl
 changes_come r b next a (Leaves action code) = refl
 
 pub served_quiet : (r : CallRow) (b : Before) (next : ℕ) → IsQuiet r → (served r b next).changes ≡ []
@@ -71,6 +72,17 @@ set_quiet b a = heap_quiet b set_slots (a 2) (setting_up (a 1) (a 0))
 pub alloc_quiet : (b : Before) (a : ℕ → ℕ) → changes_of (taking_of_heap b a) ≡ []
 alloc_quiet b a = heap_quiet b alloc_slots (a 3) (taking (a 0))
 
+semaphore_quiet : (written : ℕ → List (List ℕ)) (b : Before) (r : SemRuling) → changes_of (by_semaphore written b r) ≡ []
+semaphore_quiet written b (Becomes number) = refl
+semaphore_quiet written b Waiting = refl
+semaphore_quiet written b (Refuses error) = refl
+
+pub request_quiet : (b : Before) (a : ℕ → ℕ) → changes_of (requesting_semaphore b a) ≡ []
+request_quiet b a = semaphore_quiet number_written b (requesting (semaphore_at b (a 3) (a 2)) b.number (timeout_in a))
+
+pub wait_quiet : (b : Before) (a : ℕ → ℕ) → changes_of (waiting_for_semaphore b a) ≡ []
+wait_quiet b a = semaphore_quiet nothing_written b (waiting_for (semaphore_at b (a 3) (a 2)) (timeout_in a))
+
 pub free_quiet : (b : Before) (a : ℕ → ℕ) → changes_of (giving_to_heap b a) ≡ []
 free_quiet b a = heap_quiet b free_slots (a 2) (giving_back (a 1) (a 0))
 
@@ -79,13 +91,10 @@ error_quiet : (b : Before) (r : CallRow) (next : ℕ) (a : ℕ → ℕ) (o : Out
 error_quiet b r next a (Fails e vs) number name args error values rest line some =
     record { changes = refl; bytes = refl; input = refl; piece = refl; state = refl; selectors = record { es = refl; cs = refl; ss = refl; ds = refl } }
 error_quiet b r next a (Does d) number name args error values rest line some = absurd (let none : error ≡ 0 = cc in some none)
+error_quiet b r next a Waits number name args error values rest line some = absurd (cc)
 error_quiet b r next a (Leaves action code) number name args error values rest line some = absurd (cc)
 
 pub served_errors : (o : Option CallRow) (b : Before) (next : ℕ) → ErrorChangesNothing b (served_by o b next)
 served_errors o b next =
     by_row (ErrorChangesNothing b) b next (λ number name args error values rest line some. absurd (cc)) (λ number name args error values rest line some. absurd (cc))
     (λ r a good. error_quiet b r next a (r.outcome b a)) o
-
--- nor does exception 1 behind a step
-pub single_quiet : (b : Before) (e : Effect) → e.changes ≡ [] → (single_stepped b e).changes ≡ []
-single_quiet b e quiet = either (has_trap_flag b.cpu.flags && is_live e.state) _ _ quiet quiet

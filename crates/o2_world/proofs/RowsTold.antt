@@ -10,7 +10,7 @@ use Rattle.o2_world.specs.declared.types.State.TheVariants.{Trapped}
 use Rattle.o2_world.specs.World.{Line, HoldsBy, DropsBy, Traps, is_live}
 use Rattle.o2_world.specs.Changes.{Change, Makes, Resizes, Locks, Marks, Holds, Drops, Finishes, Reserves, Frees, Names, among, drop_lines_of, hold_lines_of, in_order, key_of, moved_lines}
 use Rattle.o2_world.specs.CallParts.{Before, Effect, trapped}
-use Rattle.o2_world.specs.Outcomes.{CallRow, Does, Fails, Leaves, Outcome, come_out}
+use Rattle.o2_world.specs.Outcomes.{CallRow, Does, Fails, Waits, Leaves, Outcome, come_out}
 use Rattle.o2_world.specs.Calls.{row_of, served_by}
 use Rattle.o2_world.specs.Effect.{has_trap_flag, answered, single_stepped, effect}
 use Rattle.o2_world.specs.Reach.{came, went, tells_end, Tells}
@@ -125,6 +125,7 @@ come_told r b next a (Does d) = record {
   tells = record { cause = r.name; came_by = λ q t. omega arith; went_by = λ q t. omega arith };
   ends = λ q. moved_ends r.name d.changes q;
 }
+come_told r b next a Waits = quiet_told b.number (come_out r b next a Waits) refl (record { comes = λ q s. refl; goes = λ q s. refl; ends = λ q. refl })
 come_told r b next a (Leaves action code) =
     quiet_told b.number (come_out r b next a (Leaves action code)) refl (record { comes = λ q s. refl; goes = λ q s. refl; ends = λ q. one_end (q == b.number) })
 
@@ -155,12 +156,13 @@ trapped_told b e lives told = record {
     plus_zero n = omega arith
 
 single_told : (b : Before) (e : Effect) → IsToldBy b.number e → IsToldBy b.number (single_stepped b e)
-single_told b e told = go (has_trap_flag b.cpu.flags) (is_live e.state) refl
+single_told b e told = go (has_trap_flag b.cpu.flags) (is_live e.state) (not e.waits) refl
   where
-    go : (t l : Bool) → is_live e.state ≡ l → IsToldBy b.number (cond (t && l) (record e { state = Trapped 1; lines = e.lines ++ Traps b.number 1 b.cpu.cs b.cpu.ip ∷ [] }) e)
-    go true true lives = trapped_told b e lives told
-    go true false lives = told
-    go false l lives = told
+    go : (t l n : Bool) → is_live e.state ≡ l → IsToldBy b.number (cond (t && (l && n)) (record e { state = Trapped 1; lines = e.lines ++ Traps b.number 1 b.cpu.cs b.cpu.ip ∷ [] }) e)
+    go true true true lives = trapped_told b e lives told
+    go true true false lives = told
+    go true false n lives = told
+    go false l n lives = told
 
 pub effect_told : (b : Before) → IsToldBy b.number (effect b)
 unfolding effect

@@ -8,10 +8,6 @@ use Rattle.o2_world.specs.Calls.{row_of, rows, served_by, serviced}
 use Rattle.o2_world.specs.RowLaws.{EachEntry, EachRow}
 use Rattle.o2_world.proofs.Rows.{of_entry}
 
-pub lacks_words : (r : CallRow) (b : Before) (next : ℕ) → has_arguments b.view b.cpu (words_in r.slots) ≡ false → served r b next ≡ trapped b 12
-unfolding served
-lacks_words r b next few = rw (few) refl
-
 pub is_worded : (r : CallRow) (b : Before) (next : ℕ) → has_arguments b.view b.cpu (words_in r.slots) ≡ true → served r b next ≡ worded r b next (argument b.view b.cpu)
 unfolding served
 is_worded r b next lies = rw (lies) refl

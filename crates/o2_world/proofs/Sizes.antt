@@ -1,5 +1,5 @@
 -- The bytes that a step leaves to a name, before its changes, are as many as before.
-use Rattle.std.proofs.Common.{◌≡◌, ℕ, ◌+◌, ◌-◌, ◌*◌, ◌≤◌, ◌==◌, ◌&&◌, ◌||◌, nat_le, Bool, true, false, cond, List, [], ◌∷◌, ◌++◌, length, Option, Some, None, if◌then◌else◌, ap, sym, ◌∙◌, refl, arith, subst}
+use Rattle.std.proofs.Common.{◌≡◌, ℕ, ◌+◌, ◌-◌, ◌*◌, ◌≤◌, ◌==◌, ◌&&◌, ◌||◌, nat_le, Bool, true, false, not, cond, List, [], ◌∷◌, ◌++◌, length, Option, Some, None, if◌then◌else◌, ap, sym, ◌∙◌, refl, arith, subst}
 use Rattle.std.specs.Prelude.{Result, Ok, Err}
 use Rattle.std.proofs.lemmas.Grind.{common_steps}
 use Rattle.o2_isa.specs.declared.cpu.Stop.{Stop}
@@ -15,7 +15,7 @@ use Rattle.o2_isa.proofs.Sizes.{stays, behind, stepped_lengths}
 use Rattle.o2_world.specs.World.{is_live}
 use Rattle.o2_world.specs.CallParts.{Before, Effect, put_at_pointer}
 use Rattle.o2_world.specs.Slots.{Pointer, put_all, targets_in}
-use Rattle.o2_world.specs.Outcomes.{CallRow, Does, Fails, Leaves, Outcome, come_out}
+use Rattle.o2_world.specs.Outcomes.{CallRow, Does, Fails, Waits, Leaves, Outcome, come_out}
 use Rattle.o2_world.specs.Calls.{serviced}
 use Rattle.o2_world.specs.RowLaws.{AreFitParts, IsFitOutcome, IsLawful, fits_at}
 use Rattle.o2_world.specs.Effect.{has_trap_flag, answered, effect}
@@ -112,6 +112,7 @@ Keeps b e = KeepsLengths b.view.bytes e.bytes
 come_sizes : (r : CallRow) (b : Before) (next : ℕ) (a : ℕ → ℕ) (o : Outcome) → IsFitOutcome b.view (targets_in r.slots a) o → Keeps b (come_out r b next a o)
 come_sizes r b next a (Fails error values) fit = stays b.view.bytes
 come_sizes r b next a (Does d) fit = put_all_sizes b.view.held (targets_in r.slots a) d.parts b.view.bytes fit
+come_sizes r b next a Waits fit = stays b.view.bytes
 come_sizes r b next a (Leaves action code) fit = stays b.view.bytes
 
 pub serviced_sizes : (service : ℕ) (b : Before) (next : ℕ) → Keeps b (serviced b service next)
@@ -128,7 +129,7 @@ answered_sizes b (Err (stop.Miss s)) e = stays b.view.bytes
 -- a step keeps the size of each name
 pub effect_sizes : (b : Before) (q : ℕ) → length ((effect b).bytes q) ≡ length (b.view.bytes q)
 unfolding effect
-effect_sizes b q = (go (has_trap_flag b.cpu.flags && is_live (answered b (stepped (state b.cpu b.view))).state) (answered_sizes b (stepped (state b.cpu b.view)) refl)).same q
+effect_sizes b q = (go (let e = answered b (stepped (state b.cpu b.view)) in has_trap_flag b.cpu.flags && (is_live e.state && not e.waits)) (answered_sizes b (stepped (state b.cpu b.view)) refl)).same q
   where
     go : (t : Bool) → Keeps b (answered b (stepped (state b.cpu b.view)))
         → Keeps b (cond t (record (answered b (stepped (state b.cpu b.view))) {

@@ -1,5 +1,5 @@
 -- What a step changes beside bytes and registers, by its shape.
-use Rattle.std.proofs.Common.{ℕ, ◌&&◌, Bool, true, false, cond, refl}
+use Rattle.std.proofs.Common.{ℕ, ◌&&◌, not, Bool, true, false, cond, refl}
 use Rattle.std.specs.Prelude.{Result, Ok, Err}
 use Rattle.o2_isa.specs.declared.cpu.Cpu.{Cpu}
 use Rattle.o2_isa.specs.declared.cpu.Stop.{Stop}
@@ -10,7 +10,7 @@ use Rattle.o2_isa.specs.Step.{stepped}
 use Rattle.o2_world.specs.World.{is_live}
 use Rattle.o2_world.specs.CallParts.{Before, Effect, returned}
 use Rattle.o2_world.specs.Slots.{words_in}
-use Rattle.o2_world.specs.Outcomes.{CallRow, Does, Fails, Leaves, Outcome, come_out}
+use Rattle.o2_world.specs.Outcomes.{CallRow, Does, Fails, Waits, Leaves, Outcome, come_out}
 use Rattle.o2_world.specs.Calls.{serviced}
 use Rattle.o2_world.specs.Effect.{answered, effect, has_trap_flag, single_stepped}
 use Rattle.o2_world.specs.Moves.{AllMoves, NoneMoves, OwnMoves}
@@ -22,6 +22,7 @@ come_moves : (r : CallRow) (b : Before) (next : ℕ) (a : ℕ → ℕ) (o : Outc
     → AllMoves b (come_out r b next a o).cpu (come_out r b next a o).changes
 come_moves r b next a (Fails error values) h = OwnMoves (NoneMoves refl)
 come_moves r b next a (Does d) h = h (returned b.cpu next (words_in r.slots) 0) (record { es = refl; cs = refl; ss = refl; ds = refl })
+come_moves r b next a Waits h = OwnMoves (NoneMoves refl)
 come_moves r b next a (Leaves action code) h = OwnMoves (NoneMoves refl)
 
 pub serviced_moves : (service : ℕ) (b : Before) (next : ℕ) → AllMoves b (serviced b service next).cpu (serviced b service next).changes
@@ -41,7 +42,7 @@ either b true e f h k = h
 either b false e f h k = k
 
 single_moves : (b : Before) (e : Effect) → AllMoves b e.cpu e.changes → AllMoves b (single_stepped b e).cpu (single_stepped b e).changes
-single_moves b e h = either b (has_trap_flag b.cpu.flags && is_live e.state) _ e h h
+single_moves b e h = either b (has_trap_flag b.cpu.flags && (is_live e.state && not e.waits)) _ e h h
 
 pub effect_moves : (b : Before) → AllMoves b (effect b).cpu (effect b).changes
 unfolding effect

@@ -1,5 +1,5 @@
 -- What a call starts from and what it does, its arguments on the stack, and its pointers.
-use Rattle.std.specs.Prelude.{ℕ, zero, suc, ◌+◌, ◌*◌, ◌/◌, ◌%◌, Bool, true, List, [], ◌∷◌, ◌++◌, ◌&&◌, Result, is_ok}
+use Rattle.std.specs.Prelude.{ℕ, zero, suc, ◌+◌, ◌*◌, ◌/◌, ◌%◌, Bool, true, false, List, [], ◌∷◌, ◌++◌, ◌&&◌, Result, is_ok}
 use Rattle.std.specs.Result.{result_unwrap_or}
 use Rattle.o2_isa.specs.declared.cpu.Cpu.{Cpu}
 use Rattle.o2_isa.specs.declared.instr.Sreg.TheVariants.{Ss}
@@ -8,13 +8,14 @@ use Rattle.o2_isa.specs.View.{View, read_of}
 pub use Rattle.o2_isa.specs.Pointers.{may_read, may_write}
 unfoldable pub use Rattle.o2_isa.specs.Pointers.{is_good, range_of, put_at_pointer}
 use Rattle.o2_world.specs.declared.types.State.{State}
-use Rattle.o2_world.specs.declared.types.State.TheVariants.{Trapped}
+use Rattle.o2_world.specs.declared.types.State.TheVariants.{Live, Trapped}
 use Rattle.o2_world.specs.World.{Line, Traps}
 use Rattle.o2_world.specs.Changes.{Change}
 use Rattle.o2_world.specs.Known.{Known}
 
 -- what a step does: the registers and the state after it, the bytes after it of the names that lived before, what it changes
--- beside them, in order, the input left, the piece for the console, and the lines
+-- beside them, in order, the input left, the piece for the console, the lines, and whether it is a call that waits: that leaves all
+-- as it is, and the process's next step is the same call
 pub record Effect : Type 0 where
   pub cpu : Cpu
   pub state : State
@@ -23,6 +24,7 @@ pub record Effect : Type 0 where
   pub input : List ℕ
   pub piece : List ℕ
   pub lines : List Line
+  pub waits : Bool
 
 -- what a step starts from: the number of its process, its registers, what it sees, what else is known, and the input left
 pub record Before : Type 0 where
@@ -42,6 +44,20 @@ trapped b vector = record {
   input = b.input;
   piece = [];
   lines = Traps b.number vector b.cpu.cs b.cpu.ip ∷ [];
+  waits = false;
+}
+
+-- a call that waits: nothing changes, and the registers stay at its CALL
+abbrev pub waiting : Before → Effect
+waiting b = record {
+  cpu = b.cpu;
+  state = Live;
+  bytes = b.view.bytes;
+  changes = [];
+  input = b.input;
+  piece = [];
+  lines = [];
+  waits = true;
 }
 
 -- the error code of each exception by which a call ends its process

@@ -1,18 +1,19 @@
 -- The calls of DOSCALLS by the OS/2 1.3 Programmer's Reference, each a row of one table.
-use Rattle.std.specs.Prelude.{ℕ, ◌==◌, Bool, List, [], ◌∷◌, ◌++◌, length, take, drop, not, codes, if◌then◌else◌, ◌&&◌, ◌||◌, Option, Some, None}
+use Rattle.std.specs.Prelude.{ℕ, ◌+◌, ◌*◌, ◌==◌, Bool, List, [], ◌∷◌, ◌++◌, length, take, drop, not, codes, if◌then◌else◌, ◌&&◌, ◌||◌, Option, Some, None}
 use Rattle.o2_world.specs.declared.types.Argument.TheVariants as shown
 use Rattle.o2_world.specs.declared.types.Slot.{Slot}
-use Rattle.o2_world.specs.declared.types.Slot.TheVariants.{Word, Reads, Writes, Text, ToWord, ToLong, ToWords, Heap}
+use Rattle.o2_world.specs.declared.types.Slot.TheVariants.{Word, Long, Reads, Writes, Text, ToWord, ToLong, ToWords, Heap}
 use Rattle.o2_world.specs.Map.{get}
 use Rattle.o2_world.specs.Rulings.{Ruling, grants, aliasing, allocation, freeing, locking, reallocation, sizing, unlocking}
 use Rattle.o2_world.specs.SharedNames.{name_by, text_at}
 use Rattle.o2_world.specs.SharedRulings.{getting, giving, naming, sharing}
 use Rattle.o2_world.specs.HugeRulings.{huge_allocation, huge_reallocation, huge_shift}
 use Rattle.o2_world.specs.HeapRulings.{HeapRuling, giving_back, setting_up, taking}
+use Rattle.o2_world.specs.SemRulings.{SemRuling, Becomes, Waiting, Refuses, number_in, requesting, waiting_for}
 pub use Rattle.o2_world.specs.CallParts.{Effect, Before, trapped, trap_code, word_of, has_arguments, word_bytes, long_bytes, returned, may_read, may_write}
 unfoldable pub use Rattle.o2_world.specs.CallParts.{argument, is_good, range_of, put_at_pointer}
 use Rattle.o2_world.specs.Slots.{are_good, may_have_heap, parts_in, pointers_in, values_in}
-use Rattle.o2_world.specs.Outcomes.{CallRow, Outcome, Does, Fails, Leaves, row, ruled, served}
+use Rattle.o2_world.specs.Outcomes.{CallRow, Outcome, Does, Fails, Waits, Leaves, row, ruled, served}
 
 -- The rulings by the words of the call.
 
@@ -169,6 +170,45 @@ free_slots = Heap ∷ Word ∷ Word ∷ []
 abbrev pub giving_to_heap : Before → (ℕ → ℕ) → Outcome
 giving_to_heap b a = on_heap free_slots b (a 2) (giving_back (a 1) (a 0))
 
+-- RAM semaphores: four bytes anywhere that the caller may write.
+abbrev pub semaphore_at : Before → (s offset : ℕ) → ℕ
+semaphore_at b s offset = number_in (range_of b.view.held b.view.bytes s offset 4)
+
+-- how a ruling on a semaphore comes out; `written` says what is written of the number behind the call
+abbrev pub by_semaphore : (written : ℕ → List (List ℕ)) → Before → SemRuling → Outcome
+by_semaphore written b (Becomes number) =
+    Does (record { values = []; parts = written number; changes = []; input = b.input; piece = [] })
+by_semaphore written b Waiting = Waits
+by_semaphore written b (Refuses error) = Fails error []
+
+abbrev pub number_written : ℕ → List (List ℕ)
+number_written number = long_bytes number ∷ []
+
+abbrev pub nothing_written : ℕ → List (List ℕ)
+nothing_written number = []
+
+-- the timeout of a call, whose words are the last two
+abbrev pub timeout_in : (ℕ → ℕ) → ℕ
+timeout_in a = a 0 + 65536 * a 1
+
+-- DosSemRequest(psem, timeout) and DosSemWait(psem, timeout)
+abbrev pub wanted_slots : List Slot
+wanted_slots = ToWords 2 ∷ Long ∷ []
+
+abbrev pub requesting_semaphore : Before → (ℕ → ℕ) → Outcome
+requesting_semaphore b a = by_semaphore number_written b (requesting (semaphore_at b (a 3) (a 2)) b.number (timeout_in a))
+
+-- nothing is written by a wait, though its pointer is tested for writing
+abbrev pub waiting_for_semaphore : Before → (ℕ → ℕ) → Outcome
+waiting_for_semaphore b a = by_semaphore nothing_written b (waiting_for (semaphore_at b (a 3) (a 2)) (timeout_in a))
+
+-- DosSemClear(psem) and DosSemSet(psem)
+abbrev pub clearing_semaphore : Before → (ℕ → ℕ) → Outcome
+clearing_semaphore b a = by_semaphore number_written b (Becomes 0)
+
+abbrev pub setting_semaphore : Before → (ℕ → ℕ) → Outcome
+setting_semaphore b a = by_semaphore number_written b (Becomes 0xFFFF)
+
 -- the rows by the numbers of their services: each service that is built has one
 abbrev pub rows : List (ℕ × CallRow)
 rows =
@@ -194,6 +234,10 @@ rows =
     (20, row (codes "DosSubSet") set_slots setting_heap) ∷
     (21, row (codes "DosSubAlloc") alloc_slots taking_of_heap) ∷
     (22, row (codes "DosSubFree") free_slots giving_to_heap) ∷
+    (25, row (codes "DosSemRequest") wanted_slots requesting_semaphore) ∷
+    (26, row (codes "DosSemClear") (ToWords 2 ∷ []) clearing_semaphore) ∷
+    (27, row (codes "DosSemWait") wanted_slots waiting_for_semaphore) ∷
+    (28, row (codes "DosSemSet") (ToWords 2 ∷ []) setting_semaphore) ∷
     []
 
 unfoldable pub row_of : (service : ℕ) → Option CallRow

@@ -12,6 +12,7 @@ pub mod SharedRulings
 pub mod HugeRulings
 pub mod Heaps
 pub mod HeapRulings
+pub mod SemRulings
 pub mod Slots
 pub mod Outcomes
 pub mod Calls
@@ -20,6 +21,7 @@ pub mod RowLaws
 pub mod Bare
 pub mod Effect
 pub mod Run
+pub mod Waits
 pub mod Giving
 pub mod Opening
 pub mod Starts
@@ -33,5 +35,6 @@ pub mod SegmentsWorked
 pub mod SharedWorked
 pub mod HugeWorked
 pub mod HeapsWorked
+pub mod SemsWorked
 pub mod SharedMarks
 pub mod EndWorked

@@ -6,7 +6,7 @@ use Rattle.o2_world.specs.declared.types.State.TheVariants.{Live, Exited}
 use Rattle.o2_world.specs.World.{Held, Calls, Exits, Ends}
 use Rattle.o2_world.specs.Changes.{Change, Makes, Resizes, Locks, Marks, Holds, Drops, Finishes, Reserves, Frees, Names, moved_lines}
 use Rattle.o2_world.specs.Known.{Known}
-use Rattle.o2_world.specs.CallParts.{Before, Effect, argument, has_arguments, returned, trapped}
+use Rattle.o2_world.specs.CallParts.{Before, Effect, argument, has_arguments, returned, trapped, waiting}
 use Rattle.o2_world.specs.Rulings.{Ruling}
 use Rattle.o2_world.specs.HugeRulings.{without}
 use Rattle.o2_world.specs.Slots.{are_good, parts_in, pointers_in, put_all, shown_in, targets_in, values_in, words_in}
@@ -25,6 +25,8 @@ pub record Done : Type 0 where
 pub data Outcome : Type 0 where
   Fails : (error : ℕ) → (values : List Argument) → Outcome
   Does : Done → Outcome
+  -- the call waits: nothing is as it wasn't, and the process's next step is this call again
+  Waits : Outcome
   -- the process ends
   Leaves : (action code : ℕ) → Outcome
 
@@ -80,6 +82,7 @@ come_out r b next a (Fails error values) = record {
   input = b.input;
   piece = [];
   lines = Calls b.number r.name (shown_in r.slots a) error values ∷ [];
+  waits = false;
 }
 come_out r b next a (Does d) = record {
   cpu = without (returned b.cpu next (words_in r.slots) 0) (gone_indexes b.known d.changes);
@@ -89,7 +92,9 @@ come_out r b next a (Does d) = record {
   input = d.input;
   piece = d.piece;
   lines = Calls b.number r.name (shown_in r.slots a) 0 d.values ∷ moved_lines r.name d.changes;
+  waits = false;
 }
+come_out r b next a Waits = waiting b
 come_out r b next a (Leaves action code) = record {
   cpu = b.cpu;
   state = Exited code;
@@ -98,6 +103,7 @@ come_out r b next a (Leaves action code) = record {
   input = b.input;
   piece = [];
   lines = Exits b.number action code ∷ Ends b.number code ∷ [];
+  waits = false;
 }
 
 -- a call by its words: a bad pointer is exception 13

@@ -13,7 +13,7 @@ use Rattle.o2_world.specs.Rulings.{Ruling}
 use Rattle.o2_world.specs.HugeRulings.{without}
 use Rattle.o2_world.specs.Moves.{AllMoves}
 use Rattle.o2_world.specs.Slots.{Pointer, are_good, pointers_in, targets_in}
-use Rattle.o2_world.specs.Outcomes.{CallRow, Does, Fails, Leaves, Outcome, gone_indexes}
+use Rattle.o2_world.specs.Outcomes.{CallRow, Does, Fails, Waits, Leaves, Outcome, gone_indexes}
 
 -- for each entry of a table, by its number
 abbrev pub EachEntry : {X : Type 0} → (ℕ → X → Type 0) → List (ℕ × X) → Type 0
@@ -26,6 +26,7 @@ EachRow P es = EachEntry (λ (service : ℕ) (r : CallRow). P r) es
 abbrev pub changes_of : Outcome → List Change
 changes_of (Fails error values) = []
 changes_of (Does d) = d.changes
+changes_of Waits = []
 changes_of (Leaves action code) = []
 
 -- a row that changes nothing beside bytes
@@ -46,12 +47,14 @@ AreFitParts held bytes (p ∷ ps) (part ∷ parts) = (fits_at held bytes p.selec
 abbrev pub IsFitOutcome : View → List Pointer → Outcome → Type 0
 IsFitOutcome v ps (Fails error values) = Unit {0}
 IsFitOutcome v ps (Does d) = AreFitParts v.held v.bytes ps d.parts
+IsFitOutcome v ps Waits = Unit {0}
 IsFitOutcome v ps (Leaves action code) = Unit {0}
 
 -- what changes, with the registers behind it, where those at its return have the selectors of before
 abbrev pub OutcomeMoves : Before → Cpu → Outcome → Type 0
 OutcomeMoves b c (Fails error values) = Unit {0}
 OutcomeMoves b c (Does d) = AllMoves b (without c (gone_indexes b.known d.changes)) d.changes
+OutcomeMoves b c Waits = Unit {0}
 OutcomeMoves b c (Leaves action code) = Unit {0}
 
 -- what a ruling by a call's words changes

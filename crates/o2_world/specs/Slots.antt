@@ -6,12 +6,13 @@ use Rattle.o2_isa.specs.Pointers.{is_for_es, is_good, put_at_pointer}
 use Rattle.o2_world.specs.declared.types.Argument.{Argument}
 use Rattle.o2_world.specs.declared.types.Argument.TheVariants as shown
 use Rattle.o2_world.specs.declared.types.Slot.{Slot}
-use Rattle.o2_world.specs.declared.types.Slot.TheVariants.{Word, Reads, Writes, Text, ToWord, ToLong, ToWords, Heap}
+use Rattle.o2_world.specs.declared.types.Slot.TheVariants.{Word, Long, Reads, Writes, Text, ToWord, ToLong, ToWords, Heap}
 use Rattle.o2_world.specs.SharedNames.{text_size}
 use Rattle.o2_world.specs.CallParts.{word_bytes, long_bytes}
 
 abbrev pub words_of : Slot → ℕ
 words_of Word = 1
+words_of Long = 2
 words_of Reads = 2
 words_of Writes = 2
 words_of Text = 2
@@ -29,6 +30,7 @@ words_in (s ∷ ss) = words_of s + words_in ss
 -- an argument in the call's line
 abbrev pub shown_at : Slot → (ℕ → ℕ) → (place : ℕ) → Argument
 shown_at Word a n = shown.Word (a n)
+shown_at Long a n = shown.Long (a (n + 1)) (a n)
 shown_at Reads a n = shown.Far (a (n + 1)) (a n)
 shown_at Writes a n = shown.Far (a (n + 1)) (a n)
 shown_at Text a n = shown.Far (a (n + 1)) (a n)
@@ -54,6 +56,7 @@ pointer_at a place count good = record { selector = a (place + 1); offset = a pl
 -- a pointer to a text is for as many bytes as are looked at
 abbrev pub pointers_at : Slot → View → (ℕ → ℕ) → (place : ℕ) → List Pointer
 pointers_at Word v a n = []
+pointers_at Long v a n = []
 pointers_at Reads v a n = pointer_at a n (a (n - 1)) is_readable ∷ []
 pointers_at Writes v a n = pointer_at a n (a (n - 1)) is_writable ∷ []
 pointers_at Text v a n = pointer_at a n (text_size v (a (n + 1)) (a n)) is_readable ∷ []
@@ -88,6 +91,7 @@ heap_at a place = record { selector = a place; offset = 0; count = 1; good = is_
 -- the heaps of a call
 abbrev pub heaps_at : Slot → (ℕ → ℕ) → (place : ℕ) → List Pointer
 heaps_at Word a n = []
+heaps_at Long a n = []
 heaps_at Reads a n = []
 heaps_at Writes a n = []
 heaps_at Text a n = []
@@ -103,6 +107,7 @@ heaps_in (s ∷ ss) a = heaps_at s a (words_in ss) ++ heaps_in ss a
 -- the pointers behind which bytes are written, in order
 abbrev pub targets_at : Slot → (ℕ → ℕ) → (place : ℕ) → List Pointer
 targets_at Word a n = []
+targets_at Long a n = []
 targets_at Reads a n = []
 targets_at Writes a n = pointer_at a n (a (n - 1)) is_writable ∷ []
 targets_at Text a n = []
@@ -124,6 +129,7 @@ put_all held (p ∷ ps) (part ∷ parts) bytes = put_all held ps parts (put_at_p
 -- a value as it is written, and as the line shows it
 abbrev pub parts_at : Slot → (value : ℕ) → List (List ℕ)
 parts_at Word value = []
+parts_at Long value = []
 parts_at Reads value = []
 parts_at Writes value = []
 parts_at Text value = []
@@ -138,6 +144,7 @@ parts_in (s ∷ ss) value = parts_at s value ++ parts_in ss value
 
 abbrev pub values_at : Slot → (value : ℕ) → List Argument
 values_at Word value = []
+values_at Long value = []
 values_at Reads value = []
 values_at Writes value = []
 values_at Text value = []

@@ -45,6 +45,10 @@ ghost use Rattle.o2_world.specs.SharedNames.{before_zero, looked_at, name_by};
 ghost use Rattle.o2_world.specs.SharedWorked.{byte_behind, gets, gives, lines_behind, names as names_of, one_left, reserves_behind, shares, texts_behind, told_by_two, two_sharers};
 ghost use Rattle.o2_world.specs.HeapsWorked.{heap_behind, sub_allocs, sub_allocs_at, sub_frees, sub_sets, told_of_heap};
 ghost use Rattle.o2_world.specs.HugeWorked.{data_behind, huges, loaded_behind, rehuges, shifts};
+ghost use Rattle.o2_world.specs.SemsWorked.{clears, forever, registers_behind, requests, semaphores_behind, sets, stepping, told_of_semaphores, tried, waits_for};
+ghost use Rattle.o2_world.specs.Waits.{IsButDispatch, spent};
+ghost use Rattle.o2_world.specs.CallParts.{waiting};
+ghost use Rattle.o2_conf.specs.Dispatch.{counted};
 ghost use Rattle.std.specs.Prelude.{replicate, take};
 ghost use Rattle.o2_world.specs.SegmentsWorked.{some_moves, es_after, ds_after, one_process, two_processes, told_after, told_by_one, data_after, allocs, allocs_of, reallocs, frees, sizes, locks, unlocks, aliases, calls, names_with, locked_marks};
 ghost use Rattle.o2_world.specs.Hello.{hello_opening, hello_world, hello_setting, hello_report, hello_start, hello_write, text_of};
@@ -375,6 +379,94 @@ pub fn heap_calls_answer_by_their_rows()
     // A bad pointer is told before a selector.
     ensures points_badly { told_of_heap (sub_allocs_at 0 0x27 63 4 ∷ []) ≡ text_of (codes "1 end trap 13 at 000F:0000" ∷ []) }
     ensures bytes { heap_behind 12 (sub_sets 0x27 1 64 ∷ []) ≡ 0x53 ∷ 0x42 ∷ 0x40 ∷ 0 ∷ 8 ∷ 0 ∷ 0 ∷ 0 ∷ 0 ∷ 0 ∷ 0x38 ∷ 0 ∷ [] }
+{}
+
+/// What each call on a RAM semaphore answers, with each error, and where it waits, for two processes that share a segment of 16 zeros.
+pub fn semaphore_calls_answer_by_their_rows()
+    // Whoever asks first has it until it is cleared, and its number stands in the four bytes.
+    ensures owner { told_of_semaphores ((1, requests 0x8007 0 forever) ∷ (2, requests 0x8007 0 0) ∷ (1, clears 0x8007 0) ∷ (2, requests 0x8007 0 forever) ∷ [])
+        ≡ text_of (codes "1 call DosSemRequest 8007:0000 FFFFFFFF = 0" ∷ codes "2 call DosSemRequest 8007:0000 00000000 = 121" ∷
+        codes "1 call DosSemClear 8007:0000 = 0" ∷ codes "2 call DosSemRequest 8007:0000 FFFFFFFF = 0" ∷ []) }
+    ensures bytes { semaphores_behind 5 ((1, clears 0x8007 0) ∷ (2, requests 0x8007 0 forever) ∷ []) ≡ 2 ∷ 0 ∷ 0 ∷ 0 ∷ 0 ∷ [] }
+    // The owner's second request is as anybody's, and a wait for what is clear takes nothing.
+    ensures again { told_of_semaphores ((1, requests 0x8007 0 forever) ∷ (1, requests 0x8007 0 0) ∷ (1, waits_for 0x8007 0 0) ∷ (1, clears 0x8007 0) ∷ (1, waits_for 0x8007 0 forever) ∷ (1, requests 0x8007 0 0) ∷ [])
+        ≡ text_of (codes "1 call DosSemRequest 8007:0000 FFFFFFFF = 0" ∷ codes "1 call DosSemRequest 8007:0000 00000000 = 121" ∷
+        codes "1 call DosSemWait 8007:0000 00000000 = 121" ∷ codes "1 call DosSemClear 8007:0000 = 0" ∷
+        codes "1 call DosSemWait 8007:0000 FFFFFFFF = 0" ∷ codes "1 call DosSemRequest 8007:0000 00000000 = 0" ∷ []) }
+    ensures takes_nothing { told_of_semaphores ((1, waits_for 0x8007 0 forever) ∷ (2, waits_for 0x8007 0 forever) ∷ (2, requests 0x8007 0 0) ∷ (1, requests 0x8007 0 0) ∷ [])
+        ≡ text_of (codes "1 call DosSemWait 8007:0000 FFFFFFFF = 0" ∷ codes "2 call DosSemWait 8007:0000 FFFFFFFF = 0" ∷
+        codes "2 call DosSemRequest 8007:0000 00000000 = 0" ∷ codes "1 call DosSemRequest 8007:0000 00000000 = 121" ∷ []) }
+    ensures writes_nothing { semaphores_behind 5 ((1, waits_for 0x8007 0 forever) ∷ []) ≡ 0 ∷ 0 ∷ 0 ∷ 0 ∷ 0 ∷ [] }
+    // A request or a wait for what isn't clear waits without an end, by the owner too: no line, and registers and bytes stay.
+    ensures waits { tried ((1, requests 0x8007 0 forever) ∷ []) 2 (requests 0x8007 0 forever) ≡ Some (record { waits = true; lines = [] }) }
+    ensures owner_waits { tried ((1, requests 0x8007 0 forever) ∷ []) 1 (requests 0x8007 0 forever) ≡ Some (record { waits = true; lines = [] }) }
+    ensures wait_waits { tried ((1, sets 0x8007 0) ∷ []) 2 (waits_for 0x8007 0 forever) ≡ Some (record { waits = true; lines = [] }) }
+    ensures waits_at_its_call { registers_behind ((1, requests 0x8007 0 forever) ∷ (2, requests 0x8007 0 forever) ∷ []) 2 ≡ registers_behind [] 2 }
+    ensures waits_writing_nothing { semaphores_behind 5 ((1, requests 0x8007 0 forever) ∷ (2, requests 0x8007 0 forever) ∷ []) ≡ 1 ∷ 0 ∷ 0 ∷ 0 ∷ 0 ∷ [] }
+    ensures goes_on_waiting { tried ((1, requests 0x8007 0 forever) ∷ (1, frees 0x8007) ∷ []) 2 (requests 0x8007 0 forever) ≡ Some (record { waits = true; lines = [] }) }
+    // 87 for any other timeout, whatever the number is, behind the pointer.
+    ensures timeouts { told_of_semaphores ((1, requests 0x8007 0 1) ∷ (1, requests 0x8007 0 0xFFFF_FFFE) ∷ (1, requests 0x8007 0 0xFFFF) ∷ (1, waits_for 0x8007 0 1) ∷ (1, sets 0x8007 0) ∷ (1, waits_for 0x8007 0 0xFFFF_0000) ∷ [])
+        ≡ text_of (codes "1 call DosSemRequest 8007:0000 00000001 = 87" ∷ codes "1 call DosSemRequest 8007:0000 FFFFFFFE = 87" ∷
+        codes "1 call DosSemRequest 8007:0000 0000FFFF = 87" ∷ codes "1 call DosSemWait 8007:0000 00000001 = 87" ∷
+        codes "1 call DosSemSet 8007:0000 = 0" ∷ codes "1 call DosSemWait 8007:0000 FFFF0000 = 87" ∷ []) }
+    ensures points_badly { told_of_semaphores ((1, requests 0 0 1) ∷ []) ≡ text_of (codes "1 end trap 13 at 000F:0000" ∷ []) }
+    ensures wants_writing { told_of_semaphores ((1, waits_for 0xf 0 0) ∷ []) ≡ text_of (codes "1 end trap 13 at 000F:0000" ∷ []) }
+    ensures last { told_of_semaphores ((1, sets 0x8007 12) ∷ (1, sets 0x8007 13) ∷ [])
+        ≡ text_of (codes "1 call DosSemSet 8007:000C = 0" ∷ codes "1 end trap 13 at 000F:0000" ∷ []) }
+    // A set leaves nobody's number, over an owner's too.
+    ensures sets { told_of_semaphores ((1, sets 0x8007 0) ∷ (2, requests 0x8007 0 0) ∷ (2, clears 0x8007 0) ∷ (1, requests 0x8007 0 0) ∷ (2, sets 0x8007 0) ∷ (1, clears 0x8007 0) ∷ [])
+        ≡ text_of (codes "1 call DosSemSet 8007:0000 = 0" ∷ codes "2 call DosSemRequest 8007:0000 00000000 = 121" ∷
+        codes "2 call DosSemClear 8007:0000 = 0" ∷ codes "1 call DosSemRequest 8007:0000 00000000 = 0" ∷
+        codes "2 call DosSemSet 8007:0000 = 0" ∷ codes "1 call DosSemClear 8007:0000 = 0" ∷ []) }
+    ensures set_bytes { semaphores_behind 5 ((1, requests 0x8007 0 0) ∷ (2, sets 0x8007 0) ∷ []) ≡ 0xFF ∷ 0xFF ∷ 0 ∷ 0 ∷ 0 ∷ [] }
+    // Whatever low bits the selector has it is the same semaphore.
+    ensures low_bits { told_of_semaphores ((1, requests 0x8007 0 forever) ∷ (2, requests 0x8004 0 0) ∷ [])
+        ≡ text_of (codes "1 call DosSemRequest 8007:0000 FFFFFFFF = 0" ∷ codes "2 call DosSemRequest 8004:0000 00000000 = 121" ∷ []) }
+    // Two that overlap are bytes as any others, and all four count.
+    ensures overlaps { told_of_semaphores ((1, sets 0x8007 0) ∷ (1, requests 0x8007 1 0) ∷ (1, requests 0x8007 2 0) ∷ (1, clears 0x8007 0) ∷ (2, requests 0x8007 2 0) ∷ [])
+        ≡ text_of (codes "1 call DosSemSet 8007:0000 = 0" ∷ codes "1 call DosSemRequest 8007:0001 00000000 = 121" ∷
+        codes "1 call DosSemRequest 8007:0002 00000000 = 0" ∷ codes "1 call DosSemClear 8007:0000 = 0" ∷
+        codes "2 call DosSemRequest 8007:0002 00000000 = 0" ∷ []) }
+    ensures high_word { told_of_semaphores ((1, requests 0x8007 2 0) ∷ (2, requests 0x8007 0 0) ∷ [])
+        ≡ text_of (codes "1 call DosSemRequest 8007:0002 00000000 = 0" ∷ codes "2 call DosSemRequest 8007:0000 00000000 = 121" ∷ []) }
+    // What an ended process owned stays so until somebody clears it.
+    ensures ended_owner { told_of_semaphores ((1, requests 0x8007 0 forever) ∷ (1, calls 1 (1 ∷ 3 ∷ [])) ∷ (2, requests 0x8007 0 0) ∷ (2, clears 0x8007 0) ∷ (2, requests 0x8007 0 0) ∷ [])
+        ≡ text_of (codes "1 call DosSemRequest 8007:0000 FFFFFFFF = 0" ∷ codes "1 call DosExit 0001 0003" ∷ codes "1 end exit 3" ∷
+        codes "2 call DosSemRequest 8007:0000 00000000 = 121" ∷ codes "2 call DosSemClear 8007:0000 = 0" ∷
+        codes "2 call DosSemRequest 8007:0000 00000000 = 0" ∷ []) }
+    // Exception 1 follows the step in which the call comes back, and no step that waits.
+    ensures traps { told_of_semaphores ((1, stepping (requests 0x8007 0 forever)) ∷ [])
+        ≡ text_of (codes "1 call DosSemRequest 8007:0000 FFFFFFFF = 0" ∷ codes "1 end trap 1 at 000F:0000" ∷ []) }
+    ensures waits_untrapped { tried ((1, sets 0x8007 0) ∷ []) 1 (stepping (requests 0x8007 0 forever)) ≡ Some (record { waits = true; lines = [] }) }
+{}
+
+/// A step that waits leaves the registers, at its call, and the world as they were, but for whose turn it is and the budget.
+pub fn a_wait_changes_the_dispatch_alone()
+    ensures effect { (b : Before) → (effect b).waits ≡ true → effect b ≡ waiting b }
+    ensures changed { (s : Setting) (w : World) (d : Dispatch) (p : Process)
+        → process_at w.processes d.current ≡ Some p → is_live p.state ≡ true
+        → let b = before s w d.current p in (effect b).waits ≡ true → IsButDispatch w (counted d) (changed w d p (effect b)) }
+    ensures step { (s : Setting) (w : World) (p : Process) → is_over w ≡ false
+        → let d = next_dispatch s w in process_at w.processes d.current ≡ Some p
+        → (effect (before s w d.current p)).waits ≡ true → IsButDispatch w (counted d) (step s w) }
+{}
+
+/// Where a step waits and the next one is of the same process, that starts from the same, so it is the same effect. It is of the same
+/// process as long as its slice or turn has steps left, so it waits for the rest of that.
+pub fn a_wait_repeats()
+    ensures turn { (s : Setting) (w : World) (p : Process) → is_over w ≡ false
+        → let d = next_dispatch s w in process_at w.processes d.current ≡ Some p
+        → (effect (before s w d.current p)).waits ≡ true → 1 < d.left → next_dispatch s (step s w) ≡ counted d }
+    ensures process { (s : Setting) (w : World) (p : Process) → is_over w ≡ false
+        → let d = next_dispatch s w in process_at w.processes d.current ≡ Some p
+        → (effect (before s w d.current p)).waits ≡ true → process_at (step s w).processes d.current ≡ Some p }
+    ensures effect { (s : Setting) (w : World) (p : Process) → is_over w ≡ false
+        → let d = next_dispatch s w in process_at w.processes d.current ≡ Some p
+        → (effect (before s w d.current p)).waits ≡ true → before s (step s w) d.current p ≡ before s w d.current p }
+    ensures rest { (s : Setting) (w : World) (p : Process) → is_over w ≡ false
+        → let d = next_dispatch s w in process_at w.processes d.current ≡ Some p
+        → (effect (before s w d.current p)).waits ≡ true
+        → (k : ℕ) → 0 < k → k ≤ d.left → k ≤ d.budget → IsButDispatch w (spent k d) (after s w k) }
 {}
 
 /// A step of a process that goes on gives and takes as many holds of each process and selector as its lines tell.

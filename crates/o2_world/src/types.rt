@@ -16,6 +16,8 @@ pub enum State {
 pub enum Slot {
     /// A word.
     Word,
+    /// Two words that are one number of 32 bits, the low one pushed last.
+    Long,
     /// A pointer to bytes that are read, as many as the word behind it says.
     Reads,
     /// A pointer to bytes that are written, at most as many as the word behind it says.

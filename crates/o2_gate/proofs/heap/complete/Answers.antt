@@ -22,6 +22,7 @@ returns-in-Done-clause-does g c = λ f input known i x outcome e.
     record {
       state = refl;
       changes = refl;
+      waits = refl;
       piece = refl;
       lines = refl;
       cpu = c.return_from.ensures ∙ ap (λ (ts : List Slot). returned c.args.cpu.now c.args.next (words_in ts) 0) c.requires.slots;

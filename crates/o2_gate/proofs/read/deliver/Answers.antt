@@ -12,6 +12,7 @@ unfolding moved_lines
 returns-in-Done-clause-does g c = λ f input rest known i j x e. record {
   state = refl;
   changes = refl;
+  waits = refl;
   piece = refl;
   lines = refl;
   cpu = c.give_back.ensures;

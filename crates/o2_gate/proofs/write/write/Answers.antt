@@ -1,4 +1,4 @@
-use Rattle.std.proofs.Common.{ℕ, List, [], ◌∷◌, inl, sym, ◌∙◌, subst, refl}
+use Rattle.std.proofs.Common.{ℕ, List, [], ◌∷◌, sym, ◌∙◌, subst, refl}
 use Rattle.o2_isa.specs.View.{View, whole}
 use Rattle.o2_world.specs.declared.types.Argument.TheVariants.{Word}
 use Rattle.o2_world.specs.declared.types.Slot.{Slot}
@@ -30,12 +30,13 @@ returns-in-Failed-put_both-clause-does g c = λ f input known i e.
     (record {
       cpu = refl;
       view = refl;
-      input = inl refl;
+      input = e;
       to_console = part.to_console;
       to_report = part.to_report;
       in_order = part.in_order;
       selectors = record { es = refl; cs = refl; ss = refl; ds = refl };
       changes = refl;
+      waits = refl;
     })
 
 pub returns-in-Done-put_both-clause-does : goal.returns-in-Done-put_both-clause-does
@@ -51,6 +52,7 @@ returns-in-Done-put_both-clause-does g c = λ f input known i e.
     (record {
       state = refl;
       changes = refl;
+      waits = refl;
       piece = c.in-Done-put_both.ensures.len f;
       lines = refl;
       cpu = c.give_back-in-Done-put_both.ensures;

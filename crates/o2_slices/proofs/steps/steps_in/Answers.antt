@@ -1,5 +1,5 @@
-use Rattle.std.proofs.Common.{◌∙◌, refl, inl, inr, arith}
-use Rattle.o2_slices.proofs.OverBus.{one_more}
+use Rattle.std.proofs.Common.{◌+◌, ◌∙◌, refl, inl, inr, arith}
+use Rattle.o2_slices.proofs.OverBus.{as_often, one_more}
 use Rattle.o2_slices.proofs.steps.steps_in.Goals as goal
 
 pub steps-init : goal.steps-init
@@ -17,7 +17,7 @@ pub steps-preserved : goal.steps-preserved
 steps-preserved c =
     let e = c.step_in.ensures in
     record {
-      steps = one_more c.args.pid c.steps.done _ _ _ c.steps.invariant.steps (e.step c.if-not-step_in.false);
+      steps = one_more c.args.pid c.steps.done _ _ _ c.steps.invariant.steps (c.in-Done.ensures.step refl);
       within = omega (arith, c.steps-test.true);
       same_store = e.same_store ∙ c.steps.invariant.same_store;
       same_regions = e.same_regions ∙ c.steps.invariant.same_regions;
@@ -26,8 +26,16 @@ steps-preserved c =
       agrees = e.agrees;
     }
 
-pub returns-then-not-step_in-clause-sliced : goal.returns-then-not-step_in-clause-sliced
-returns-then-not-step_in-clause-sliced c = record { last = _; steps = c.steps.invariant.steps; behind = inr (c.step_in.ensures.still c.if-not-step_in.true) }
+pub returns-in-Waits-clause-sliced : goal.returns-in-Waits-clause-sliced
+returns-in-Waits-clause-sliced c = record {
+  last = _;
+  steps = as_often c.args.pid _ _ (c.in-Waits.ensures.again refl) (c.steps.done + 1) c.args.most
+      (one_more c.args.pid c.steps.done _ _ _ c.steps.invariant.steps (c.in-Waits.ensures.step refl)) (omega (arith, c.steps-test.true));
+  behind = inl refl;
+}
+
+pub returns-in-Undone-clause-sliced : goal.returns-in-Undone-clause-sliced
+returns-in-Undone-clause-sliced c = record { last = _; steps = c.steps.invariant.steps; behind = inr (c.in-Undone.ensures.still refl) }
 
 pub returns-else-not-has_trap_flag-clause-sliced : goal.returns-else-not-has_trap_flag-clause-sliced
 returns-else-not-has_trap_flag-clause-sliced c = record { last = _; steps = c.steps.invariant.steps; behind = inl refl }

@@ -1,0 +1,11 @@
+pub mod Sequences
+pub mod Lines
+pub mod Pointers
+pub mod Rows
+pub mod Behind
+pub mod Steps
+pub mod Runs
+pub mod Wanting
+pub mod Openings
+pub mod Reports
+pub mod Sharing
