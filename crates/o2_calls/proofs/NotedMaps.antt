@@ -20,10 +20,6 @@ from_next m pid first j (suc c) some is =
     let rest : suc c - 1 ≡ c = omega arith in
     ap (λ (b : Bool). cond b (suc (members_from m pid first (j + 1) c)) 0) is ∙ sym (ap (λ (d : ℕ). suc (members_from m pid first (j + 1) d)) rest)
 
-pub from_stop : (m : Maps) (pid first j c : ℕ) → is_member_in m pid first j ≡ false → members_from m pid first j c ≡ 0
-from_stop m pid first j zero is = refl
-from_stop m pid first j (suc c) is = ap (λ (b : Bool). cond b (suc (members_from m pid first (j + 1) c)) 0) is
-
 -- as many were passed, and the rest is to be counted
 abbrev pub SoMany : Maps → (pid first index count place : ℕ) → Type 0
 SoMany m pid first i c n = (n ≤ c) × (members_from m pid first i c ≡ n + members_from m pid first (i + n) (c - n))
@@ -43,17 +39,6 @@ many_next m pid first i c n less is many =
     let e : members_from m pid first (i + n + 1) (c - n - 1) ≡ members_from m pid first (i + (n + 1)) (c - (n + 1)) = ap (λ (j : ℕ). members_from m pid first j (c - n - 1)) a ∙ ap (members_from m pid first (i + (n + 1))) b in
     let was = many.1 in
     (omega (arith, less), omega (arith, was, step, e))
-
-pub many_stop : (m : Maps) (pid first i c n : ℕ) → is_member_in m pid first (i + n) ≡ false → SoMany m pid first i c n → n ≡ members_from m pid first i c
-many_stop m pid first i c n is many = (let stop = from_stop m pid first (i + n) (c - n) is in let was = many.1 in omega (arith, stop, was))
-
-pub many_all : (m : Maps) (pid first i c n : ℕ) → c ≤ n → SoMany m pid first i c n → c ≡ members_from m pid first i c
-many_all m pid first i c n most many =
-    let none : c - n ≡ 0 = omega (arith, most) in
-    let e : members_from m pid first (i + n) (c - n) ≡ 0 = ap (members_from m pid first (i + n)) none in
-    let was = many.1 in
-    let low = many.0 in
-    omega (arith, e, was, most, low)
 
 -- Blocks of the processes that hold a run, one process more.
 
@@ -108,9 +93,6 @@ table_inside bs = go (list_all is_inside bs) refl
     go : (t : Bool) → list_all is_inside bs ≡ t → AreInside (cond t bs [])
     go true e = inside_of bs e
     go false e = tt
-
-pub one_inside : (b : Block) → b.index + b.count ≤ 8192 → b ∷ [] ≡ in_table (b ∷ [])
-one_inside b low = sym (all_in_table (b ∷ []) (low, tt))
 
 pub one_outside : (b : Block) → 8192 < b.index + b.count → [] ≡ in_table (b ∷ [])
 one_outside b high = sym (ap (λ (t : Bool). cond (t && true) (b ∷ []) []) (over_is (b.index + b.count) 8192 high))

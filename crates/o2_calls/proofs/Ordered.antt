@@ -11,10 +11,6 @@ abbrev pub Rise : (low high : ℕ) → List Line → Type 0
 Rise low high [] = low ≤ high
 Rise low high (l ∷ ls) = (low ≤ key_of l) × Rise (key_of l) high ls
 
-pub rise_ends : (low high : ℕ) (ls : List Line) → Rise low high ls → low ≤ high
-rise_ends low high [] rise = rise
-rise_ends low high (l ∷ ls) rise = (let a = rise_ends (key_of l) high ls rise.1 in let b = rise.0 in omega (arith, a, b))
-
 pub rise_low : (low lower high : ℕ) (ls : List Line) → lower ≤ low → Rise low high ls → Rise lower high ls
 rise_low low lower high [] less rise = omega (arith, less, rise)
 rise_low low lower high (l ∷ ls) less rise = (let b = rise.0 in omega (arith, less, b), rise.1)

@@ -48,6 +48,7 @@ module _ (b : Before) (next : ℕ) (a : Arguments) where
     input = b.input;
     piece = [];
     lines = Calls b.number (name_of a) shown error values ∷ moved_lines (name_of a) changes;
+    waits = false;
   }
 
   -- without what is gone

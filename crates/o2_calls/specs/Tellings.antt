@@ -1,5 +1,5 @@
 -- What a ruling tells of a call on segments: its lines, and the value that it writes.
-use Rattle.std.specs.Prelude.{ℕ, [], ◌∷◌}
+use Rattle.std.specs.Prelude.{ℕ, false, [], ◌∷◌}
 use Rattle.o2_isa.specs.declared.cpu.Cpu.{Cpu}
 use Rattle.o2_world.specs.declared.types.State.TheVariants.{Live}
 use Rattle.o2_world.specs.Calls.{Before, Effect, returned}
@@ -20,6 +20,7 @@ replied a b next r c = record {
   input = b.input;
   piece = [];
   lines = call_line a b.number r.error r.value ∷ moved_lines (name_of a) r.changes;
+  waits = false;
 }
 
 -- the call with these arguments, whose pointer is good

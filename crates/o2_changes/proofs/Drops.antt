@@ -1,6 +1,5 @@
 -- What a hold less leaves.
 use Rattle.std.proofs.Common.{◌≡◌, ◌≢◌, ℕ, ◌-◌, ◌<◌, ◌≤◌, ◌&&◌, inl, inr, List, length, Option, Some, None, IsSome, Bool, true, false, cond, eqb, refl, sym, ap, ◌∙◌, subst, arith, get_or, set}
-use Rattle.std.specs.Option.{unwrap_or}
 use Rattle.std.proofs.lemmas.Bool.{cases_eq, cases_lt, cond-true, cond-false, eq-eqb, ne_eqb}
 use Rattle.std.proofs.lemmas.List.{get_or-set_other, get_or-set_same, get_or_past, length-set}
 use Rattle.o2_desc.specs.declared.descriptor.Descriptor.{Descriptor}
@@ -9,7 +8,7 @@ use Rattle.o2_desc.specs.Bytes.{empty}
 use Rattle.o2_place.specs.declared.seg_id.SegId.{SegId}
 use Rattle.o2_regions.specs.declared.held.Held.{Held}
 use Rattle.o2_regions.specs.Kept.{AreKept}
-use Rattle.o2_regions.specs.Maps.{Maps, IsProcess, dropped, emptied, held_at, left_of, less_of, table_of}
+use Rattle.o2_regions.specs.Maps.{Maps, IsProcess, dropped, emptied, held_at, less_of, table_of}
 use Rattle.o2_regions.proofs.AfterCalls.{dropped-processes, held_at-dropped, table_of-dropped}
 use Rattle.o2_segbus.specs.Settled.{IsSettledAt, descriptor_at}
 use Rattle.o2_store.specs.Shelf.{Shelf, entry_of}
@@ -64,15 +63,6 @@ less_is (Some was) x e = go (eqb (was.holds - 1) 0) e
     go : (b : Bool) → cond b None (Some (record was { holds = was.holds - 1 })) ≡ Some x → (w : Held) × (Some was ≡ Some w) × (x.id ≡ w.id)
     go true e = absurd cc
     go false e = (let z : record was { holds = was.holds - 1 } ≡ x = cc in (was, refl, ap (λ (y : Held). y.id) (sym z)))
-
--- how many are left
-pub left_none : (o : Option Held) (n : ℕ) → IsSome o → n ≡ unwrap_or (left_of o) 0 → n ≡ 0 → less_of o ≡ None
-left_none None n some e z = refl
-left_none (Some was) n some e z = rw (eq-eqb (was.holds - 1) 0 (sym e ∙ z)) refl
-
-pub left_some : (o : Option Held) (n : ℕ) → IsSome o → n ≡ unwrap_or (left_of o) 0 → n ≢ 0 → IsSome (less_of o)
-left_some None n some e z = some
-left_some (Some was) n some e z = rw (ne_eqb (was.holds - 1) 0 (λ q. z (e ∙ q))) refl
 
 module _ (s : Shelf) (m : Maps) (pid i : ℕ) (k : AreKept m) (p : IsProcess m pid) (small : i < 8192) (o : IsInOrder s m) where
   pub held_here : held_at (dropped m pid i) pid i ≡ less_of (held_at m pid i)

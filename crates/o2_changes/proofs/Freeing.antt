@@ -96,10 +96,6 @@ zero_stays m pid g j rg a b = sym (cond-false (same_region g (region_of pid 0) &
     never true e = e
     never false e = refl
 
--- what is reserved isn't asked by what is held and by descriptors
-pub reserved_order : (s : Shelf) (m n : Maps) → n ≡ record m { reserved = n.reserved } → IsInOrder s m → IsInOrder s n
-reserved_order s m n is o = subst (IsInOrder s) (sym is) (record { held = record { live = o.held.live; inside = o.held.inside }; settled = o.settled; tables = o.tables })
-
 -- the holders of a segment
 none_from : (id : SegId) (os : List (Option Held)) (at : ℕ) → places_from (is_of id) os at ≡ [] → (k : ℕ) → is_of id (get_or os k None) ≡ false
 none_from id [] at e k = refl
@@ -200,12 +196,6 @@ pub region_end : (pid i : ℕ) → i < 8192 → i + 1 ≤ end_of (region_of pid 
 region_end pid i small = elim (cases_lt i 4096) [
   | inl low ↦ subst (λ (g : Region). i + 1 ≤ end_of g) (sym (is_private pid i low)) (omega (arith, low))
   | inr high ↦ subst (λ (g : Region). i + 1 ≤ end_of g) (sym (is_shared pid i high)) (omega (arith, small))
-]
-
-pub region_from : (pid i : ℕ) → 0 < i → first_of (region_of pid i) ≤ i
-region_from pid i some = elim (cases_lt i 4096) [
-  | inl low ↦ subst (λ (g : Region). first_of g ≤ i) (sym (is_private pid i low)) (omega (arith, some))
-  | inr high ↦ subst (λ (g : Region). first_of g ≤ i) (sym (is_shared pid i high)) high
 ]
 
 -- An index that is reserved stays taken, and one that is free is held by nobody.

@@ -123,6 +123,9 @@ pub fn bring_in<S: SwapDevice>(
     ensures here { result ≡ Brought.Here → IsSome (place_of store.new id.key) }
     ensures no_room { result ≡ Brought.NoRoom
         → store.old.places.size < all_wanted store.old id.key keep.now }
+    ensures absent { result ≡ Brought.NoRoom → place_of store.old id.key ≡ None }
+    ensures always_no_room { place_of store.old id.key ≡ None
+        → store.old.places.size < all_wanted store.old id.key keep.now → result ≡ Brought.NoRoom }
     ensures loads { result ≡ Brought.SwapFull
         → (all_of store.old.swap < swap_load store.old)
         × (store.old.places.size < live_load store.old) }
@@ -169,6 +172,8 @@ pub fn resize<S: SwapDevice>(
     ensures no_room { result ≡ Brought.NoRoom → IsSome (place_of store.old id.key)
         × (stays store.old id.key keep.now ≡ true)
         × (store.old.places.size < all_wanted_at store.old id.key keep.now size) }
+    ensures always_no_room { IsSome (place_of store.old id.key) → stays store.old id.key keep.now ≡ true
+        → store.old.places.size < all_wanted_at store.old id.key keep.now size → result ≡ Brought.NoRoom }
     ensures loads { result ≡ Brought.SwapFull → (all_of store.old.swap < swap_load store.old)
         × (store.old.places.size < live_load_at store.old id.key size) }
     ensures never { result ≡ Brought.Stale → ⊥ }

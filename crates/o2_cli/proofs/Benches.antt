@@ -47,7 +47,7 @@ fails_bench count s blocks i c r q e k before now status.NoRoom f = absurd f
 fails_bench count s blocks i c r q e k before now status.SwapFull f = absurd f
 fails_bench count s blocks i c r q e k before now status.SwapFault f = absurd f
 
--- behind the start: the report's count rose since then, and the lines of the start were put before
+-- behind the start: the report's last put failed since then, and the lines of the start were put before
 module _ (s : Session) (blocks : ℕ) (i j r q : Option (List ℕ)) (since : Type 0) (x y z : ℕ) (put : Bool) (stands : Setting → World → Type 0) where
   module _ (e : Type 0) (later : since → e) (count : ℕ) (c : Option (List ℕ)) (k : ℕ) where
     abbrev pub Faulted : Fault → Type 0

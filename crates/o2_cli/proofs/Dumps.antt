@@ -2,7 +2,6 @@
 use Rattle.std.proofs.Common.{◌≡◌, ℕ, ◌+◌, ◌∙◌, [], Bool, true, false, ap, length, List, Option, Some, refl, subst, sym}
 use Rattle.std.proofs.lemmas.Bool.{false≢true}
 use Rattle.std.specs.Prelude.{Result, Ok, Err}
-use Rattle.o2_store.specs.Pictures.{picture}
 use Rattle.o2_words.specs.declared.words.Verb.TheVariants.{Dump}
 use Rattle.o2_world.specs.World.{World}
 use Rattle.o2_world.specs.Starts.{Built}
@@ -49,7 +48,7 @@ fails_dump s blocks i c r q e k before now status.NoRoom f = absurd f
 fails_dump s blocks i c r q e k before now status.SwapFull f = absurd f
 fails_dump s blocks i c r q e k before now status.SwapFault f = absurd f
 
--- behind the start: the report's count rose since then, and the lines of the start were put before
+-- behind the start: the report's last put failed since then, and the lines of the start were put before
 module _ (s : Session) (built : Built) (starts : starting s.linked s.conf ≡ Ok built) (blocks : ℕ) (i j c d r q : Option (List ℕ)) (since e : Type 0) (later : since → e)
     (k l x y z : ℕ) (front : y ≡ x + length built.lines) (put : Bool) (stands : World → Type 0) where
   abbrev pub Ran : Result (Unit {0}) Fault → Type 0
@@ -91,7 +90,7 @@ module _ (s : Session) (built : Built) (starts : starting s.linked s.conf ≡ Ok
 
   -- no image is put
   module _ (quiet : IsQuiet c d (counts k l x z 0)) where
-    unlined : (why : Stop) (w : World) → put ≡ false → IsPut put (HasStopLine why w r q) since → IsDumped (picture s.linked.images) blocks (setting_of s.conf) why c d r q e (counts k l x z 0) w
+    unlined : (why : Stop) (w : World) → put ≡ false → IsPut put (HasStopLine why w r q) since → IsDumped s.linked.images blocks (setting_of s.conf) why c d r q e (counts k l x z 0) w
     unlined why w is h = Untold (later (subst (λ (b : Bool). IsPut b (HasStopLine why w r q) since) is h)) quiet
 
     pub without_image : (result : Result (Unit {0}) Fault) (answer : Status) → answer ≡ status_of_run result → is_dumped result put ≡ false → Ran result → Shown answer
@@ -107,7 +106,7 @@ module _ (s : Session) (built : Built) (starts : starting s.linked s.conf ≡ Ok
 
   -- an image, or a front of it
   abbrev pub Images : Wrote → Type 0
-  Images w = (v : World) → stands v → GainsByWrote (picture s.linked.images) blocks (setting_of s.conf) v c d w
+  Images w = (v : World) → stands v → GainsByWrote s.linked.images blocks (setting_of s.conf) v c d w
 
   image_at_end : (w : Wrote) (answer : Status) → answer ≡ status_of_image w status.Fine → Images w → Ran (Ok tt) → Shown answer
   image_at_end w answer is images ran = subst Shown (sym is) (by w images)
@@ -121,7 +120,7 @@ module _ (s : Session) (built : Built) (starts : starting s.linked s.conf ≡ Ok
     has_line : (why : Stop) (w : World) → IsPut put (HasStopLine why w r q) since → HasStopLine why w r q
     has_line why w h = subst (λ (b : Bool). IsPut b (HasStopLine why w r q) since) lined h
 
-    unfinished : (why : Stop) → IsForRoom why → ((v : World) → stands v → GainsFront (picture s.linked.images) blocks (setting_of s.conf) v c d) → Ran (Err (Stopped why))
+    unfinished : (why : Stop) → IsForRoom why → ((v : World) → stands v → GainsFront s.linked.images blocks (setting_of s.conf) v c d) → Ran (Err (Stopped why))
         → (input : List ℕ) → i ≡ Some input → IsUnfinished blocks (start_of s input built) j c d r q e (counts k l x z 0)
     unfinished why room cut ran input left = AtStop why room (stop why _ (λ w st line. (has_line why w line, cut w st)) ran input left)
 

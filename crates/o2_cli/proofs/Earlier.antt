@@ -1,4 +1,4 @@
--- What a run leaves, from before the lines of the start on: they are ahead no more, and the report's count may have risen. The steps are
+-- What a run leaves, from before the lines of the start on: they are ahead no more, and the report's last put may have failed. The steps are
 -- the same by computation.
 use Rattle.std.proofs.Common.{◌≡◌, ◌⊎◌, inl, inr, ℕ, ◌+◌, Bool, List, Option, arith, length}
 use Rattle.o2_world.specs.World.{World, Setting}

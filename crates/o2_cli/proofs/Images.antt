@@ -2,8 +2,8 @@
 use Rattle.std.proofs.Common.{◌≡◌, ℕ, suc, ◌+◌, ◌-◌, ◌==◌, ◌∙◌, List, [], ◌∷◌, Option, Some, None, Ok, ap, arith, length, map, min, option_map, refl, sym, subst}
 use Rattle.std.specs.Prelude.{slice_get}
 use Rattle.o2_regions.specs.Maps.{Maps}
-use Rattle.o2_store.specs.Pictures.{picture}
-use Rattle.o2_store.specs.Shelf.{Shelf}
+use Rattle.o2_store.specs.Pictures.{HasPicture, picture}
+use Rattle.o2_store.specs.Shelf.{HasAll, Shelf}
 use Rattle.o2_swapmap.specs.Piles.{all_of}
 use Rattle.o2_world.specs.declared.types.State.{State}
 use Rattle.o2_world.specs.declared.types.State.TheVariants.{Live, Exited, Trapped}
@@ -14,10 +14,12 @@ use Rattle.o2_world.proofs.Numbers.{not_zero}
 use Rattle.o2_dump.specs.declared.reader.Core.{Core}
 use Rattle.o2_dump.specs.CoreBytes.{core_bytes}
 use Rattle.o2_dump.specs.CoreImage.{core_of}
+use Rattle.o2_dumping.specs.Apart.{IsApart}
+use Rattle.o2_dumping.proofs.Naming.{segments_named}
 use Rattle.o2_dumping.specs.declared.parts.Wrote.{Wrote}
 use Rattle.o2_dumping.specs.declared.parts.Wrote.TheVariants as wrote
 use Rattle.o2_dumping.specs.Puts.{Writes}
-use Rattle.o2_dumping.specs.Told.{Row, core_told}
+use Rattle.o2_dumping.specs.Told.{Row, core_told, numbers}
 use Rattle.o2_dump_laws.specs.Whole.{IsWhole}
 use Rattle.o2_dump_worlds.specs.Rows.{number_shown, row_of}
 use Rattle.o2_dump_worlds.specs.StandsFor.{ImageStandsFor, code_shown}
@@ -106,13 +108,14 @@ module _ (m : Machine) (device : ℕ) (block : ℕ → List ℕ) (s : Setting) (
         subst (λ (x : Core). ImageStandsFor (picture m.space.images) s device (steps_done s w) x w) (sym told_is)
         (image_stands (parts_in m.space device block) s w (steps_done s w) lawful_there stands.space stands.set)
 
-    image_is : IsImageOf (picture m.space.images) device s w (core_bytes told)
-    image_is = record { core = told; stands = stands_there; bytes = refl }
+    image_is : IsApart told → HasAll (HasPicture m.space.images) shelf → IsImageOf m.space.images device s w (core_bytes told)
+    image_is apart all =
+        record { core = told; stands = stands_there; bytes = refl; apart = apart; named = segments_named shelf block (HasPicture m.space.images) all (numbers shelf) }
 
     -- what is written of the image
-    pub gains_image : (old new : Option (List ℕ)) (result : Wrote) → Writes old new (core_bytes told) result → (result ≡ wrote.Done → IsWhole told × (core_of (core_bytes told) ≡ Ok told))
-        → GainsByWrote (picture m.space.images) device s w old new result
+    pub gains_image : (old new : Option (List ℕ)) (result : Wrote) → IsApart told → HasAll (HasPicture m.space.images) shelf → Writes old new (core_bytes told) result → (result ≡ wrote.Done → IsWhole told × (core_of (core_bytes told) ≡ Ok told))
+        → GainsByWrote m.space.images device s w old new result
     unfolding image_is
-    gains_image old new wrote.Done writes read = λ t is. (core_bytes told, writes t is, record { image_of = image_is; whole = (read refl).0; read = (read refl).1 })
-    gains_image old new wrote.SinkFault writes read = λ t is. let g = writes t is in (g.0, g.1, (core_bytes told, image_is, g.2))
-    gains_image old new wrote.SwapFault writes read = λ t is. let g = writes t is in (g.0, g.1, (core_bytes told, image_is, g.2))
+    gains_image old new wrote.Done apart all writes read = λ t is. (core_bytes told, writes t is, record { image_of = image_is apart all; whole = (read refl).0; read = (read refl).1 })
+    gains_image old new wrote.SinkFault apart all writes read = λ t is. let g = writes t is in (g.0, g.1, (core_bytes told, image_is apart all, g.2))
+    gains_image old new wrote.SwapFault apart all writes read = λ t is. let g = writes t is in (g.0, g.1, (core_bytes told, image_is apart all, g.2))

@@ -12,16 +12,18 @@ use Rattle.o2_words.specs.Words.{IsCommand, IsCommandFor}
 use Rattle.o2_open.specs.declared.fault.OpenFault.{OpenFault}
 use Rattle.o2_open.specs.declared.session.Session.{Session}
 use Rattle.o2_open.specs.Loads.{Contents, Fails, IsLinked, Refuses as OpenRefuses, loaded}
+use Rattle.o2_open.proofs.Asking.{asks_none}
+use Rattle.o2_open.specs.Names.{AsksFirst, names_in}
 use Rattle.o2_cli.specs.declared.status.Status.{Status}
 use Rattle.o2_cli.specs.declared.status.Status.TheVariants as status
 use Rattle.o2_cli.specs.Checks.{Checks}
 use Rattle.o2_cli.specs.Promises.{Promises}
 use Rattle.o2_cli.specs.Sessions.{ActsAs, ChecksAs, RunsAs}
-use Rattle.o2_cli.specs.Sides.{FileSides, InputSides, SinkSides, SwapSides, AreSame, SinkRose, InputRose, SwapRose, both_puts, left_before}
+use Rattle.o2_cli.specs.Sides.{FileSides, InputSides, SinkSides, SwapSides, AreSame, SinkFailedLast, SinkRose, InputRose, SwapRose, both_puts, left_before}
 use Rattle.o2_cli.specs.Statuses.{status_by}
 use Rattle.o2_cli.specs.Top.{IsBench, OnFileFault, OnInputFault, OnSinkFault, OnSwapFault, Refuses, Shows}
 use Rattle.o2_cli.proofs.Ample.{ample_status, starts_from, unswapped_open}
-use Rattle.o2_cli.proofs.Checked.{bench_is, check_faults, lines_of_check, no_check, quiet, refused_lines, refused_open, texts_of_check, unstarted, untried}
+use Rattle.o2_cli.proofs.Checked.{bench_is, check_faults, lines_of_check, name_is, no_check, quiet, refused_lines, refused_open, texts_of_check, unstarted, untried, verb_is}
 use Rattle.o2_cli.proofs.Completed.{check_completes, completes, open_completes, open_file_fault, open_input_fault, open_sink_fault, open_swap_fault}
 use Rattle.o2_cli.proofs.Memory.{memory_first}
 use Rattle.o2_cli.proofs.Reaching.{command_reaches, on_opened, unopened}
@@ -48,6 +50,8 @@ module _ {F I C R S : Type 0} (words : List (String Global)) (f : FileSides F) (
     memory_first = λ more. tt;
     same = all_same;
     benches_unread = λ bench. refl;
+    fetches = λ verb operand command contents may. asks_none _ _ _ refl;
+    unfetched = λ none. refl;
     files_earlier = λ contents may. may;
     swap_blocks = refl;
     swap_told = λ told. told;
@@ -73,6 +77,8 @@ module _ {F I C R S : Type 0} (words : List (String Global)) (f : FileSides F) (
     memory_first = memory_first r.puts c.puts _ _ _ _ status.NoMemory refl refl;
     same = all_same;
     benches_unread = λ bench. refl;
+    fetches = λ verb operand command contents may. asks_none _ _ _ refl;
+    unfetched = λ none. refl;
     files_earlier = λ contents may. may;
     swap_blocks = refl;
     swap_told = λ told. told;
@@ -83,7 +89,15 @@ module _ {F I C R S : Type 0} (words : List (String Global)) (f : FileSides F) (
   }
 
   module _ (verb : Verb) (name : List ℕ) (command : IsCommandFor words verb name)
-      (earlier : (contents : Contents) → f.may_hold f.new contents → f.may_hold f.old contents) (unread : (n : ℕ) → verb ≡ Bench n → f.new ≡ f.old) where
+      (earlier : (contents : Contents) → f.may_hold f.new contents → f.may_hold f.old contents) (unread : (n : ℕ) → verb ≡ Bench n → f.new ≡ f.old)
+      (asks : (contents : Contents) → f.may_hold f.new contents → AsksFirst (names_in verb contents name) (f.asked f.old) (f.asked f.new)) where
+    -- words are one command
+    fetching : (other : Verb) (operand : List ℕ) → IsCommandFor words other operand → (contents : Contents) → f.may_hold f.new contents
+        → AsksFirst (names_in other contents operand) (f.asked f.old) (f.asked f.new)
+    fetching other operand is contents may =
+        subst (λ (v : Verb). AsksFirst (names_in v contents operand) (f.asked f.old) (f.asked f.new)) (verb_is words verb other name operand command is)
+        (subst (λ (n : List ℕ). AsksFirst (names_in verb contents n) (f.asked f.old) (f.asked f.new)) (name_is words verb other name operand command is) (asks contents may))
+
     no_reading : IsBench words → f.new ≡ f.old
     no_reading bench = let is = bench_is words verb name command bench in unread is.0 is.1
 
@@ -107,6 +121,8 @@ module _ {F I C R S : Type 0} (words : List (String Global)) (f : FileSides F) (
       memory_first = memory_first r.puts c.puts _ _ _ _ answer (on_unrun _ refl answer) (on_unrun _ refl answer);
       same = on_unrun _ all_same answer;
       benches_unread = no_reading;
+      fetches = fetching;
+      unfetched = λ none. absurd (none (verb, name, command));
       files_earlier = earlier;
       swap_blocks = refl;
       swap_told = λ told. told;
@@ -144,6 +160,8 @@ module _ {F I C R S : Type 0} (words : List (String Global)) (f : FileSides F) (
         memory_first = memory_first r.puts c.puts _ _ _ _ answer (unrun_so _ _ (λ (x : AreSame i c r s). x.report) answer run.same) (unrun_so _ _ (λ (x : AreSame i c r s). x.console) answer run.same);
         same = run.same;
         benches_unread = no_reading;
+        fetches = fetching;
+        unfetched = λ none. absurd (none (verb, name, command));
         files_earlier = earlier;
         swap_blocks = run.swap_blocks;
         swap_told = run.swap_told;
@@ -158,8 +176,8 @@ module _ {F I C R S : Type 0} (words : List (String Global)) (f : FileSides F) (
       check_promise is answer k = record {
         refused = refuses;
         texts = λ told text seen.
-            subst (λ (x : I). Shows words (f.may_hold f.new) (s.blocks s.old) (left_before i text) (left_as text (i.left x) (i.past x)) (c.taken c.old) (c.taken c.new) (r.taken r.old) (r.taken r.new) (SinkRose r) (both_puts c r) answer) (sym k.unread)
-            (subst (λ (x : R). Shows words (f.may_hold f.new) (s.blocks s.old) (left_before i text) (left_before i text) (c.taken c.old) (c.taken c.new) (r.taken r.old) (r.taken x) (SinkRose r) (both_puts c r) answer) (sym k.quietly)
+            subst (λ (x : I). Shows words (f.may_hold f.new) (s.blocks s.old) (left_before i text) (left_as text (i.left x) (i.past x)) (c.taken c.old) (c.taken c.new) (r.taken r.old) (r.taken r.new) (SinkFailedLast r) (both_puts c r) answer) (sym k.unread)
+            (subst (λ (x : R). Shows words (f.may_hold f.new) (s.blocks s.old) (left_before i text) (left_before i text) (c.taken c.old) (c.taken c.new) (r.taken r.old) (r.taken x) (SinkFailedLast r) (both_puts c r) answer) (sym k.quietly)
             (texts_of_check words (f.may_hold f.new) name check session _ _ _ _ _ _ _ answer k.lines));
         some_text = may_be_given (i.past i.new);
         goes_on = subst (λ (x : I). GoesOn (i.past i.old) (i.past x)) (sym k.unread) (goes_same (i.past i.old));
@@ -172,6 +190,8 @@ module _ {F I C R S : Type 0} (words : List (String Global)) (f : FileSides F) (
         memory_first = memory_first r.puts c.puts _ _ _ _ answer (on_unrun _ k.quietly answer) k.same_console;
         same = unrun_so _ _ (λ e. record { input = k.unread; console = e; report = k.quietly; swap = k.unswapped }) answer k.same_console;
         benches_unread = no_reading;
+        fetches = fetching;
+        unfetched = λ none. absurd (none (verb, name, command));
         files_earlier = earlier;
         swap_blocks = ap s.blocks k.unswapped;
         swap_told = λ told. subst (λ (x : S). IsTrue (s.told x)) k.unswapped told;

@@ -15,7 +15,6 @@ use Rattle.o2_run.specs.declared.steps.Stop.{Stop}
 use Rattle.o2_run.specs.declared.steps.Stop.TheVariants.{Input, NoRoom, SwapFull, SwapFault}
 use Rattle.o2_run.specs.declared.fault.Fault.{Fault}
 use Rattle.o2_run.specs.declared.fault.Fault.TheVariants.{Sink, Stopped}
-use Rattle.o2_run.specs.Faults.{CauseOf}
 use Rattle.o2_run.specs.Pieces.{Counts, counts}
 use Rattle.o2_run.specs.Ended.{HasPartRun, HasTexts}
 use Rattle.o2_run.proofs.Reached.{part_from, stopped_from}
@@ -69,7 +68,7 @@ pub in_opening : (s : Session) (b : Built) (input : List ℕ) (j c r q : Option 
 in_opening s b input j c r q left g k x y least most = record {
   texts = InOpening (λ t e. e ∙ ap Some (sym (append-nil t))) g;
   room = tt;
-  input = inl left;
+  input = left;
   hands = record { to_console = omega arith; at_least = omega (arith, least); at_most = no_more x y (length b.lines) most };
 }
 
@@ -162,17 +161,6 @@ pub start_refused : (s : Session) (pid : ℕ) (fault : ModuleFault) (answer : Op
     → starting s.linked s.conf ≡ Err (pid, fault) → Tells answer (start_refusal s.conf s.linked.programs pid fault) → RefusesRun s told
 start_refused s pid fault answer told is e t = subst (λ (a : Status). RefusesRun s a) (sym is) (start_refused_by s pid fault answer e t)
 
--- a fault of a run refuses nothing
-fault_refuses : (s : Session) (f : Fault) → RefusesRun s (status_of f)
-fault_refuses s Sink = tt
-fault_refuses s (Stopped Input) = tt
-fault_refuses s (Stopped NoRoom) = tt
-fault_refuses s (Stopped SwapFull) = tt
-fault_refuses s (Stopped SwapFault) = tt
-
-pub no_refusal : (s : Session) (f : Fault) (answer : Status) → answer ≡ status_of f → RefusesRun s answer
-no_refusal s f answer is = subst (λ (a : Status). RefusesRun s a) (sym is) (fault_refuses s f)
-
 -- where nothing opens, nothing is taken or put
 untouched_by : (words : List (String Global)) (may : Possible) (blocks : ℕ) (i c r : Option (List ℕ)) (z : Type 0) (n : Counts) (fault : OpenFault) → Shows words may blocks i i c c r r z n (status_by fault)
 untouched_by words may blocks i c r z n (open_fault.NoFile name) = record { input = refl; console = refl; report = refl }
@@ -184,7 +172,7 @@ untouched_by words may blocks i c r z n open_fault.NoMemory = record { input = r
 pub untouched : (words : List (String Global)) (may : Possible) (blocks : ℕ) (i c r : Option (List ℕ)) (z : Type 0) (n : Counts) (fault : OpenFault) (answer : Status) → answer ≡ status_by fault → Shows words may blocks i i c c r r z n answer
 untouched words may blocks i c r z n fault answer is = subst (λ (a : Status). Shows words may blocks i i c c r r z n a) (sym is) (untouched_by words may blocks i c r z n fault)
 
--- what a run with a fault shows: the report's count rose behind the start, and the lines of the start were put before
+-- what a run with a fault shows: the report's last put failed behind the start, and the lines of the start were put before
 module _ (s : Session) (blocks : ℕ) (i j c d r q : Option (List ℕ)) (e : Type 0) (u v x y z : ℕ) (stands : Setting → World → Type 0) (since : Type 0) (later : since → e) where
   abbrev pub Faulted : Fault → Type 0
   Faulted f = (input : List ℕ) → i ≡ Some input
@@ -206,40 +194,8 @@ module _ (s : Session) (blocks : ℕ) (i j c d r q : Option (List ℕ)) (e : Typ
   pub faulted_run : (f : Fault) (answer : Status) → answer ≡ status_of f → Faulted f → ShowsRun Run s blocks i j c d r q e (counts u v x z 0) answer
   faulted_run f answer is ran = subst (λ (a : Status). ShowsRun Run s blocks i j c d r q e (counts u v x z 0) a) (sym is) (by_fault f ran)
 
-pub input_status : (f : Fault) (sink input device : Type 0) → CauseOf sink input (Unit {0}) device f → OnInputFault (status_of f) input
-input_status Sink sink input device h = tt
-input_status (Stopped Input) sink input device h = h
-input_status (Stopped NoRoom) sink input device h = tt
-input_status (Stopped SwapFull) sink input device h = tt
-input_status (Stopped SwapFault) sink input device h = tt
-
-pub sink_status : (f : Fault) (sink input device : Type 0) → CauseOf sink input (Unit {0}) device f → OnSinkFault (status_of f) sink
-sink_status Sink sink input device h = h
-sink_status (Stopped Input) sink input device h = tt
-sink_status (Stopped NoRoom) sink input device h = tt
-sink_status (Stopped SwapFull) sink input device h = tt
-sink_status (Stopped SwapFault) sink input device h = tt
-
-pub swap_status : (f : Fault) (sink input device : Type 0) → CauseOf sink input (Unit {0}) device f → OnSwapFault (status_of f) device
-swap_status Sink sink input device h = tt
-swap_status (Stopped Input) sink input device h = tt
-swap_status (Stopped NoRoom) sink input device h = tt
-swap_status (Stopped SwapFull) sink input device h = tt
-swap_status (Stopped SwapFault) sink input device h = h
-
 abbrev pub load_started : List ℕ → Result Session OpenFault → Result Opened OpenFault
 load_started input r = r >>= (λ s. started s input)
-
--- a command that runs is no `check`
-pub runs_not_checks : (verb : Verb) → (verb ≡ Exe) ⊎ (verb ≡ Run) → verb ≡ Check → ⊥
-runs_not_checks verb (inl exe) check = let same : Exe ≡ Check = sym exe ∙ check in absurd (cc)
-runs_not_checks verb (inr run) check = let same : Run ≡ Check = sym run ∙ check in absurd (cc)
-
-pub benches_not_checks : (verb : Verb) (count : ℕ) → verb ≡ Bench count → verb ≡ Check → ⊥
-benches_not_checks verb count bench check = let same : Bench count ≡ Check = sym bench ∙ check in absurd (cc)
-
-pub dumps_not_checks : (verb : Verb) → verb ≡ Dump → verb ≡ Check → ⊥
-dumps_not_checks verb dump check = let same : Dump ≡ Check = sym dump ∙ check in absurd (cc)
 
 -- what a session's run shows as `run`, it shows as `exe`
 pub shown_either : (verb : Verb) (s : Session) (blocks : ℕ) (i j c d r q : Option (List ℕ)) (e : Type 0) (n : Counts) (answer : Status) → (verb ≡ Exe) ⊎ (verb ≡ Run)
@@ -260,16 +216,6 @@ shown_either verb s blocks i j c d r q e n answer (inl exe) t = subst (λ (v : V
     as_exe (status.BadMachine f) t = absurd t
     as_exe status.FileFault t = absurd t
 shown_either verb s blocks i j c d r q e n answer (inr run) t = subst (λ (v : Verb). ShowsRun v s blocks i j c d r q e n answer) (sym run) t
-
--- and what it shows as a bench
-pub shown_bench : (verb : Verb) (count : ℕ) (s : Session) (blocks : ℕ) (i j c d r q : Option (List ℕ)) (e : Type 0) (n : Counts) (answer : Status) → verb ≡ Bench count
-    → ShowsRun (Bench count) s blocks i j c d r q e n answer → ShowsRun verb s blocks i j c d r q e n answer
-shown_bench verb count s blocks i j c d r q e n answer is t = subst (λ (v : Verb). ShowsRun v s blocks i j c d r q e n answer) (sym is) t
-
--- and as a dump
-pub shown_dump : (verb : Verb) (s : Session) (blocks : ℕ) (i j c d r q : Option (List ℕ)) (e : Type 0) (n : Counts) (answer : Status) → verb ≡ Dump
-    → ShowsRun Dump s blocks i j c d r q e n answer → ShowsRun verb s blocks i j c d r q e n answer
-shown_dump verb s blocks i j c d r q e n answer is t = subst (λ (v : Verb). ShowsRun v s blocks i j c d r q e n answer) (sym is) t
 
 -- a refusal of a command that starts
 first_of : (verb : Verb) (contents : Contents) (name input : List ℕ) (f : OpenFault) → ((verb ≡ Check) → ⊥) → opened verb contents name input ≡ Err f → IsFirst verb contents name input f

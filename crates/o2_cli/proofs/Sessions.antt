@@ -15,7 +15,7 @@ use Rattle.o2_cli.specs.Done.{AllFit}
 use Rattle.o2_cli.specs.Opening.{StartsWith}
 use Rattle.o2_cli.specs.RunTexts.{FailsToBegin, RefusesRun, ShowsRun}
 use Rattle.o2_cli.specs.Sessions.{ActsAs, ChecksAs, RunsAs}
-use Rattle.o2_cli.specs.Sides.{FileSides, InputSides, SinkSides, SwapSides, AreSame, InputRose, SinkRose, SwapRose, both_puts, left_before, left_behind, file_sides, input_sides, sink_sides, swap_sides}
+use Rattle.o2_cli.specs.Sides.{FileSides, InputSides, SinkSides, SwapSides, AreSame, InputRose, SinkFailedLast, SinkRose, SwapRose, both_puts, left_before, left_behind, file_sides, input_sides, sink_sides, swap_sides}
 use Rattle.o2_cli.specs.Statuses.{status_of_run}
 use Rattle.o2_cli.specs.Top.{OnSinkFault, OnUnrun}
 use Rattle.o2_cli.proofs.ImageStatuses.{run_input, run_refusal, run_sink, run_swap, run_unrun}
@@ -23,7 +23,7 @@ use Rattle.o2_cli.proofs.Runs.{begin_input, begin_sink, begin_swap, shown_either
 
 -- what a call leaves as it was
 abbrev pub still_files : {F : Type 0} → FileSides F → FileSides F
-still_files f = file_sides f.old f.old f.may_hold f.faults
+still_files f = file_sides f.old f.old f.may_hold f.asked f.faults
 
 abbrev pub still_input : {I : Type 0} → InputSides I → InputSides I
 still_input i = input_sides i.old i.old i.left i.past i.faults
@@ -99,7 +99,7 @@ module _ {I C R S : Type 0} (verb : Verb) (session : Session) (i : InputSides I)
   pub unbegun : (answer : Status) → FailsToBegin session (r.taken r.old) (r.taken r.new) (r.puts r.old) (r.puts r.new) answer
       → RefusesRun session answer → OnUnrun answer (r.new ≡ r.old) → OnSinkFault answer (SinkRose r)
       → ((left : Option (List ℕ)) → ShowsRun verb session (s.blocks s.old) left left (c.taken c.old) (c.taken c.old) (r.taken r.old) (r.taken r.new)
-      (SinkRose r) (both_puts (still_sink c) r) answer)
+      (SinkFailedLast r) (both_puts (still_sink c) r) answer)
       → RunsAs verb session (still_input i) (still_sink c) r (still_swap s) answer
   unbegun answer fails refused same sink shows = record {
     same = unrun_so _ _ (λ e. record { input = refl; console = refl; report = e; swap = refl }) answer same;
@@ -120,7 +120,7 @@ module _ {I C R S : Type 0} (verb : Verb) (session : Session) (i : InputSides I)
       → s.blocks s.new ≡ s.blocks s.old → (IsTrue (s.told s.new) → IsTrue (s.told s.old)) → GoesOn (i.past i.old) (i.past i.new)
       → (IsTrue (s.told s.new) → (text : Option (List ℕ)) → IsSeenAs text (i.past i.new)
       → ShowsRun verb session (s.blocks s.old) (left_before i text) (left_behind i text) (c.taken c.old) (c.taken c.new)
-      (r.taken r.old) (r.taken r.new) (SinkRose r) (both_puts c r) answer)
+      (r.taken r.old) (r.taken r.new) (SinkFailedLast r) (both_puts c r) answer)
       → (IsTrue (s.told s.old) → (text : Option (List ℕ)) → IsSeenAs text (i.past i.new) → (seen : List ℕ)
       → left_before i text ≡ Some seen → StartsWith session seen AllFit → s.new ≡ s.old)
       → RunsAs verb session i c r s answer

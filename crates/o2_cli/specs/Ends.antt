@@ -19,7 +19,7 @@ HasEnd Check blocks o j c d r q n = ⊥
 HasEnd Dump blocks o j c d r q n = HasDumpRun blocks o j c d r q n
 HasEnd (Bench count) blocks o j c d r q n = HasBenchRun count o j c d r q n
 
--- where a sink failed; `fault` says that the report did
+-- where a sink failed; `fault` says that the last put of the report did
 abbrev pub HasPart : Verb → (blocks : ℕ) → Opened → (left console_old console_new report_old report_new : Option (List ℕ)) → (fault : Type 0)
     → Counts → Type 0
 HasPart Exe blocks o j c d r q e n = HasPartRun machine_swaps o.setting o.world j c d r q n
@@ -28,7 +28,7 @@ HasPart Check blocks o j c d r q e n = ⊥
 HasPart Dump blocks o j c d r q e n = HasDumpPart blocks o j c d r q e n
 HasPart (Bench count) blocks o j c d r q e n = HasBenchPart count o j c d r q n
 
--- where the run is stopped so, before a step; `fault` says that the report failed, and the device has so many blocks
+-- where the run is stopped so, before a step; `fault` says that the last put of the report failed, and the device has so many blocks
 abbrev pub HasStop : Verb → (blocks : ℕ) → Opened → Stop → (left console_old console_new report_old report_new : Option (List ℕ)) → (fault : Type 0)
     → Counts → Type 0
 HasStop Exe blocks o why j c d r q e n = HasStoppedTexts machine_swaps blocks o.setting o.world why j c d r q e n

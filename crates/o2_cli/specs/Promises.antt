@@ -4,11 +4,14 @@ use Rattle.std.specs.declared.alloc.Global.{Global}
 use Rattle.o2_outer.specs.Inputs.{GoesOn, MayBe, IsSeenAs}
 use Rattle.o2_outer.specs.Texts.{Rose}
 use Rattle.o2_open.specs.Loads.{Contents}
+use Rattle.o2_open.specs.Names.{AsksFirst, names_in}
+use Rattle.o2_words.specs.Words.{IsCommand, IsCommandFor}
+use Rattle.o2_words.specs.declared.words.Verb.{Verb}
 use Rattle.o2_cli.specs.declared.status.Status.{Status}
 use Rattle.o2_cli.specs.Checks.{Checks, IsUnstarted}
 use Rattle.o2_cli.specs.Done.{Completes, CompletesCheck, HasMemory, InMemory, IsUnswapped}
 use Rattle.o2_cli.specs.Reaches.{Reaches}
-use Rattle.o2_cli.specs.Sides.{FileSides, InputSides, SinkSides, SwapSides, AreSame, InputRose, SinkRose, SwapRose, both_puts, left_before, left_behind}
+use Rattle.o2_cli.specs.Sides.{FileSides, InputSides, SinkSides, SwapSides, AreSame, InputRose, SinkFailedLast, SinkRose, SwapRose, both_puts, left_before, left_behind}
 use Rattle.o2_cli.specs.Top.{IsBench, IsCheck, Possible, Refuses, Shows, OnFileFault, OnInputFault, OnSinkFault, OnSwapFault, OnTried, OnUnrun}
 
 -- A check puts its lines at once, refuses no start, and touches nothing but the files and the console.
@@ -25,12 +28,13 @@ pub record Promises {F I C R S : Type 0} (words : List (String Global)) (f : Fil
   -- Both texts are those of the boundless machine over all files that agree with what was fetched, or fronts of them, where each
   -- block that was read had what was written to it last; each line of the report is one put, and so is the piece for the console
   -- of each step that has one. Of a bench the console gains its line alone, by one put, where the run is over; of a dump a core image
-  -- that stands for the world at its end, or for that of a stop for room or for swap whose line was put.
+  -- that stands for the world at its end, or for that of a stop for room or for swap whose line was put: of such a stop the image
+  -- lacks only where the report's last put, which is that of the line, failed.
   -- The input is seen by what it tells, or as any text that the whole of it may be when the call comes back: what it has given
   -- is a front of it, and all of it where it has ended.
   pub texts : IsTrue (s.told s.new) → (text : Option (List ℕ)) → IsSeenAs text (i.past i.new)
       → Shows words (f.may_hold f.new) (s.blocks s.old) (left_before i text) (left_behind i text) (c.taken c.old) (c.taken c.new)
-      (r.taken r.old) (r.taken r.new) (SinkRose r) (both_puts c r) result
+      (r.taken r.old) (r.taken r.new) (SinkFailedLast r) (both_puts c r) result
   -- What it has given is such a text.
   pub some_text : MayBe (i.past i.new).given (i.past i.new)
   pub goes_on : GoesOn (i.past i.old) (i.past i.new)
@@ -56,6 +60,11 @@ pub record Promises {F I C R S : Type 0} (words : List (String Global)) (f : Fil
   -- Where nothing ran, the input, both sinks and the device are as they were, whatever they tell.
   pub same : OnUnrun result (AreSame i c r s)
   pub benches_unread : IsBench words → f.new ≡ f.old
+  -- The files are asked for the operand's, and where that is a machine file for each module that it lists, in their order and each
+  -- once: for no other name, and for none where the words are no command.
+  pub fetches : (verb : Verb) (operand : List ℕ) → IsCommandFor words verb operand → (contents : Contents) → f.may_hold f.new contents
+      → AsksFirst (names_in verb contents operand) (f.asked f.old) (f.asked f.new)
+  pub unfetched : (IsCommand words → ⊥) → f.asked f.new ≡ f.asked f.old
   -- Files that agree with what was fetched agreed with what was fetched before, and a device whose reads all gave what was written
   -- had none before that didn't.
   pub files_earlier : (contents : Contents) → f.may_hold f.new contents → f.may_hold f.old contents

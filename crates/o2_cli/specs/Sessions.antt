@@ -12,7 +12,7 @@ use Rattle.o2_cli.specs.declared.status.Status.{Status}
 use Rattle.o2_cli.specs.Done.{AllFit}
 use Rattle.o2_cli.specs.Opening.{StartsWith}
 use Rattle.o2_cli.specs.RunTexts.{RefusesRun, ShowsRun}
-use Rattle.o2_cli.specs.Sides.{InputSides, SinkSides, SwapSides, AreSame, InputRose, SinkRose, SwapRose, both_puts, left_before, left_behind}
+use Rattle.o2_cli.specs.Sides.{InputSides, SinkSides, SwapSides, AreSame, InputRose, SinkFailedLast, SinkRose, SwapRose, both_puts, left_before, left_behind}
 use Rattle.o2_cli.specs.Top.{OnInputFault, OnSinkFault, OnSwapFault, OnTried, OnUnrun}
 
 pub record RunsAs {I C R S : Type 0} (verb : Verb) (session : Session) (i : InputSides I) (c : SinkSides C) (r : SinkSides R) (s : SwapSides S) (result : Status) : Type 0 where
@@ -23,7 +23,7 @@ pub record RunsAs {I C R S : Type 0} (verb : Verb) (session : Session) (i : Inpu
   -- However the input is seen: by what it tells, or as a text that the whole of it may be.
   pub texts : IsTrue (s.told s.new) → (text : Option (List ℕ)) → IsSeenAs text (i.past i.new)
       → ShowsRun verb session (s.blocks s.old) (left_before i text) (left_behind i text) (c.taken c.old) (c.taken c.new)
-      (r.taken r.old) (r.taken r.new) (SinkRose r) (both_puts c r) result
+      (r.taken r.old) (r.taken r.new) (SinkFailedLast r) (both_puts c r) result
   pub goes_on : GoesOn (i.past i.old) (i.past i.new)
   pub input_fault : OnInputFault result (InputRose i)
   pub sink_fault : OnSinkFault result (SinkRose c ⊎ SinkRose r)

@@ -3,18 +3,20 @@ use Rattle.std.specs.Prelude.{◌≡◌, ℕ, Bool, List, Option}
 use Rattle.o2_outer.specs.Inputs.{Past, left_as}
 use Rattle.o2_outer.specs.Texts.{Rose}
 use Rattle.o2_open.specs.Loads.{Contents}
+use Rattle.o2_run.specs.Lined.{LastPutFailed}
 use Rattle.o2_run.specs.Pieces.{Counts, counts}
 use Rattle.o2_cli.specs.Top.{Possible}
 
--- the files: which contents they may have, and how often they have failed
+-- the files: which contents they may have, which names they were asked for, and how often they have failed
 pub record FileSides (F : Type 0) : Type 1 where
   pub may_hold : F → Possible
+  pub asked : F → List (List ℕ)
   pub faults : F → ℕ
   pub old : F
   pub new : F
 
-abbrev pub file_sides : {F : Type 0} → (old new : F) → (may_hold : F → Possible) → (faults : F → ℕ) → FileSides F
-file_sides old new may_hold faults = record { may_hold = may_hold; faults = faults; old = old; new = new }
+abbrev pub file_sides : {F : Type 0} → (old new : F) → (may_hold : F → Possible) → (asked : F → List (List ℕ)) → (faults : F → ℕ) → FileSides F
+file_sides old new may_hold asked faults = record { may_hold = may_hold; asked = asked; faults = faults; old = old; new = new }
 
 -- the input: what is left of it, where it tells that, what it has given, and how often it has failed
 pub record InputSides (I : Type 0) : Type 0 where
@@ -50,6 +52,10 @@ sink_sides old new taken puts faults = record { taken = taken; puts = puts; faul
 
 abbrev pub SinkRose : {S : Type 0} → SinkSides S → Type 0
 SinkRose s = Rose (s.faults s.old) (s.faults s.new)
+
+-- its last put failed
+abbrev pub SinkFailedLast : {S : Type 0} → SinkSides S → Type 0
+SinkFailedLast s = LastPutFailed s.puts s.faults s.old s.new
 
 -- the pieces that console and report were handed before the call and behind it
 abbrev pub both_puts : {C R : Type 0} → SinkSides C → SinkSides R → Counts

@@ -84,7 +84,7 @@ abbrev pub Stops : List (String Global) → Possible → (blocks : ℕ)
 Stops words may blocks i j c d r q e n why = Runs words may i (λ verb o. HasStop verb blocks o why j c d r q e n)
 
 -- both texts, their puts and the input, by the status: what the command shows of the boundless machine's run, or a front of it; `fault`
--- says that the report failed, and `blocks` how many blocks the device has
+-- says that the last put of the report failed, and `blocks` how many blocks the device has
 abbrev pub Shows : List (String Global) → Possible → (blocks : ℕ)
     → (left_old left_new console_old console_new report_old report_new : Option (List ℕ)) → (fault : Type 0) → (puts : Counts) → Status → Type 0
 Shows words may blocks i j c d r q e n status.Fine = Runs words may i (λ verb o. HasEnd verb blocks o j c d r q n)

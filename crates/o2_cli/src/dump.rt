@@ -14,7 +14,6 @@ ghost use Rattle.o2_cli.specs.Sessions.{BegunAs, RunsAs};
 ghost use Rattle.o2_cli.specs.Sides.{input_sides, sink_sides, swap_sides};
 ghost use Rattle.o2_cli.specs.Statuses.{status_of_image, status_of_run};
 ghost use Rattle.o2_store.specs.Idle.{NoneTaken};
-ghost use Rattle.o2_store.specs.Pictures.{picture};
 
 use crate::Status;
 use crate::begun::begun;
@@ -71,7 +70,7 @@ fn put_image<C: Sink, S: SwapDevice>(
     requires device { GoesOver machine.now.space machine.now.sched (S.blocks swap.old) }
     ensures text { IsTrue (S.told swap.new) → (s : Setting) (w : World) → blocks ≡ min s.swap (S.blocks swap.old)
         → StandsFor machine.now (S.blocks swap.old) (S.block swap.old) s w
-        → GainsByWrote (picture machine.now.space.images) (S.blocks swap.old) s w (C.taken console.old) (C.taken console.new) result }
+        → GainsByWrote machine.now.space.images (S.blocks swap.old) s w (C.taken console.old) (C.taken console.new) result }
     ensures read { IsRead (S.blocks swap.old) (S.blocks swap.new)
         (S.told swap.old) (S.told swap.new) (S.block swap.old) (S.block swap.new) }
     ensures idle { NoneTaken machine.now.space.store.swap → swap.new ≡ swap.old }

@@ -1,5 +1,6 @@
 // The top call over the files of a system and a swap device in one of them.
 ghost use Rattle.o2_outer.specs.Accesses.{all_agree};
+ghost use Rattle.o2_outer.specs.Asked.{asked_for};
 ghost use Rattle.o2_outer.specs.Fetches.{AreOver};
 ghost use Rattle.o2_outer.specs.Streams.{folder_faults, folder_fetches, swap_faults, swap_history};
 ghost use Rattle.o2_cli.specs.Promises.{Promises};
@@ -22,7 +23,7 @@ pub fn os2run_on_system<F: rt::Files + Drop, I: Source, C: Sink, R: Sink>(
     swap: &mut FileSwap<F>,
 ) -> Status
     ensures promises { Promises words.now
-        (file_sides files.old files.new (λ f contents. AreOver contents (folder_fetches f)) folder_faults)
+        (file_sides files.old files.new (λ f contents. AreOver contents (folder_fetches f)) (λ f. asked_for (folder_fetches f)) folder_faults)
         (input_sides input.old input.new I.left I.past I.faults) (sink_sides console.old console.new C.taken C.puts C.faults)
         (sink_sides report.old report.new R.taken R.puts R.faults)
         (swap_sides swap.old swap.new (λ d. 65536) (λ d. all_agree (swap_history d)) swap_faults) result }

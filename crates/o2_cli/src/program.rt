@@ -30,7 +30,7 @@ pub fn perform<F: Files, I: Source, C: Sink, R: Sink, S: SwapDevice, L: Sink>(
     swap: &mut S,
     last: &mut L,
 ) -> u8
-    ensures performs { Performs words.now (file_sides files.old files.new F.may_hold F.faults) (input_sides input.old input.new I.left I.past I.faults)
+    ensures performs { Performs words.now (file_sides files.old files.new F.may_hold F.asked F.faults) (input_sides input.old input.new I.left I.past I.faults)
         (sink_sides console.old console.new C.taken C.puts C.faults) (sink_sides report.old report.new R.taken R.puts R.faults)
         (swap_sides swap.old swap.new S.blocks S.told S.faults) (sink_sides last.old last.new L.taken L.puts L.faults) result }
 {

@@ -37,7 +37,7 @@ pub fn os2run<F: Files, I: Source, C: Sink, R: Sink, S: SwapDevice>(
     report: &mut R,
     swap: &mut S,
 ) -> Status
-    ensures promises { Promises words.now (file_sides files.old files.new F.may_hold F.faults) (input_sides input.old input.new I.left I.past I.faults)
+    ensures promises { Promises words.now (file_sides files.old files.new F.may_hold F.asked F.faults) (input_sides input.old input.new I.left I.past I.faults)
         (sink_sides console.old console.new C.taken C.puts C.faults) (sink_sides report.old report.new R.taken R.puts R.faults)
         (swap_sides swap.old swap.new S.blocks S.told S.faults) result }
 {

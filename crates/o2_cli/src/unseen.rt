@@ -10,7 +10,7 @@ ghost use Rattle.o2_run.specs.Pieces.{counts};
 ghost use Rattle.o2_machine.specs.GoesOver.{GoesOver};
 ghost use Rattle.o2_machine.specs.Lasts.{machine_swaps, put_of, stopped_of};
 ghost use Rattle.o2_machine.specs.StandsFor.{StandsFor};
-ghost use Rattle.o2_run.specs.Lined.{HasLined};
+ghost use Rattle.o2_run.specs.Lined.{HasLined, LastPutFailed};
 ghost use Rattle.o2_cli.specs.Unseen.{Written};
 ghost use Rattle.o2_store.specs.Idle.{NoneTaken};
 
@@ -32,7 +32,7 @@ pub(crate) fn run_unseen<I: Source, R: Sink, S: SwapDevice>(
         → w.console ≡ [] → Gains r (R.taken report.old) (lines_text w.lines)
         → (z : Written) × HasLined (StandsFor machine.new (S.blocks swap.new) (S.block swap.new) s) machine_swaps (S.blocks swap.old) s w
         (left_as text (I.left input.new) (I.past input.new))
-        (Some []) (Some z.bytes) r (R.taken report.new) (Rose (R.faults report.old) (R.faults report.new))
+        (Some []) (Some z.bytes) r (R.taken report.new) (LastPutFailed R.puts R.faults report.old report.new)
         (counts 0 z.pieces (R.puts report.old) (R.puts report.new) (length w.lines)) (put_of machine.new.last) result }
     ensures goes_on { GoesOn (I.past input.old) (I.past input.new) }
     ensures stopped { EndsAs (stopped_of machine.new.last) result }

@@ -28,9 +28,6 @@ hold_some s m pid i h d is told =
     let e : d ≡ descriptor_at m pid i = described (held_at m pid i) h (table_of m pid) i d (descriptor_at m pid i) is told refl in
     ap (hold_told s i (descriptor_at m pid i)) (sym is) ∙ ap (λ (z : Descriptor). hold_told s i z (Some h)) (sym e)
 
-pub hold_bare : (o : Option HeldThere) (h : HeldThere) (ds : List Descriptor) (i : ℕ) → Some h ≡ o → None ≡ descriptor_of o ds i → ⊥
-hold_bare o h ds i is told = let x : None ≡ descriptor_of (Some h) ds i = told ∙ ap (λ (z : Option HeldThere). descriptor_of z ds i) (sym is) in cc
-
 -- how many
 many : (s : Shelf) (i : ℕ) (d : Descriptor) (o : Option HeldThere) (b : Bool) → b ≡ is_some o → (b ≡ true → length (hold_told s i d o) ≡ 1) × (b ≡ false → length (hold_told s i d o) ≡ 0)
 many s i d None b e = (λ t. absurd (let x : true ≡ false = sym t ∙ e in cc), λ t. refl)

@@ -15,11 +15,18 @@ use Rattle.o2_segbus.specs.Settled.{IsSettled}
 use Rattle.o2_service.specs.Told.{IsHeldWell}
 use Rattle.o2_store.specs.Shelf.{Shelf}
 use Rattle.o2_swapmap.specs.Piles.{all_of}
+use Rattle.o2_dumping.specs.Apart.{IsApart}
 use Rattle.o2_dumping.specs.Fits.{FitsAt, IsFitHold, IsFitRow}
 use Rattle.o2_dumping.specs.Told.{Row, core_told, descriptor_at, numbers, segment_told}
 use Rattle.o2_dumping.proofs.Imaging.{many_processes}
 use Rattle.o2_dumping.proofs.ProcessesWhole.{processes_whole}
-use Rattle.o2_dumping.proofs.SegmentsWhole.{IsLawful, segments_whole}
+use Rattle.o2_dumping.proofs.SegmentsWhole.{IsLawful, segments_apart, segments_whole}
+
+-- whatever fits its fields, the segments lie apart
+pub image_apart : (s : Shelf) (m : Maps) (rows : List Row) (block : ℕ → List ℕ) (blocks done console : ℕ) → IsLawful s → all_of s.swap ≤ blocks
+    → (c : Core) → c ≡ core_told s m rows block blocks done console → IsApart c
+image_apart s m rows block blocks done console law enough c is =
+    subst (λ (x : Core). IsApart x) (sym is) (record { segments = segments_apart s block blocks law enough s.entries 0 [] (omega arith) tt })
 
 pub image_whole : (s : Shelf) (m : Maps) (rows : List Row) (block : ℕ → List ℕ) (blocks done console : ℕ) → IsLawful s → AreKept m → IsSettled s m → IsHeldWell s m
     → ((pid i : ℕ) → (descriptor_at m pid i).base < 2 ^ 24) → all_of s.swap ≤ blocks → blocks < 2 ^ 32 → done < 2 ^ 64 → console < 2 ^ 64 → length rows ≤ m.processes

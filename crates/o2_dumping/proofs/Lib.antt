@@ -6,5 +6,6 @@ pub mod Imaging
 pub mod Settling
 pub mod Fitting
 pub mod SegmentsWhole
+pub mod Naming
 pub mod ProcessesWhole
 pub mod ImageWhole

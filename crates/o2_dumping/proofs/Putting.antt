@@ -2,8 +2,8 @@
 use Rattle.std.proofs.Common.{◌≡◌, ℕ, ◌+◌, ◌≤◌, List, [], ◌++◌, Option, Bool, ◌-◌, ◌^◌, min, refl, sym, ap, ◌∙◌, append_assoc, append-nil, subst, arith}
 use Rattle.o2_outer.specs.declared.sink.Put.{Put}
 use Rattle.o2_outer.specs.declared.sink.Put.TheVariants as put
-use Rattle.o2_outer.specs.Texts.{Gains, GainsSome, IsPrefix, Rose}
-use Rattle.o2_outer.specs.Answers.{Takes, OnFailed}
+use Rattle.o2_outer.specs.Texts.{Gains, GainsSome, IsPrefix}
+use Rattle.o2_outer.specs.Answers.{Takes}
 use Rattle.o2_outer.proofs.TextLemmas.{gains_none, puts_more, puts_second}
 use Rattle.o2_dumping.specs.declared.parts.Wrote.{Wrote}
 use Rattle.o2_dumping.specs.declared.parts.Wrote.TheVariants.{Done, SinkFault, SwapFault}
@@ -67,13 +67,7 @@ then_written a b c whole part rest r e g h = last_written a b c whole rest r (mo
 pub takes_as : (a b : Option (List ℕ)) (part whole : List ℕ) (r : Put) → part ≡ whole → Takes a b part r → Takes a b whole r
 takes_as a b part whole r e g = subst (λ (w : List ℕ). Takes a b w r) e g
 
-pub writes_as : (a b : Option (List ℕ)) (part whole : List ℕ) (r : Wrote) → part ≡ whole → Writes a b part r → Writes a b whole r
-writes_as a b part whole r e g = subst (λ (w : List ℕ). Writes a b w r) e g
-
 -- ---- a device
-
-pub read_none : (n : ℕ) (told : Bool) (block : ℕ → List ℕ) → IsRead n n told told block block
-read_none n told block = record { count = refl; earlier = λ t. t; same = λ _. refl }
 
 pub read_more : (n m k : ℕ) (t u v : Bool) (f g h : ℕ → List ℕ) → IsRead n m t u f g → IsRead m k u v g h → IsRead n k t v f h
 read_more n m k t u v f g h a b = record {
@@ -94,11 +88,3 @@ since s s1 s2 w w1 w2 r a b h = record { sinks = omega (arith, h.sinks); swaps =
     by_answer Done g = g
     by_answer SinkFault g = rose_since s s1 s2 (2 ^ 64 - 1) a g
     by_answer SwapFault g = rose_since w w1 w2 (2 ^ 64 - 1) b g
-
-pub fails_since : (s s1 s2 : ℕ) (r : Put) → s ≤ s1 → OnFailed r (Rose s1 s2) → OnFailed r (Rose s s2)
-fails_since s s1 s2 put.Done a g = g
-fails_since s s1 s2 put.Failed a g = rose_since s s1 s2 (2 ^ 64 - 1) a g
-
--- a put as a part of what may want the device
-pub put_causes : (s s1 w : ℕ) (r : Put) (q : Wrote) → s ≤ s1 → Caused s s1 w w q → HasCauses s s1 w w q
-put_causes s s1 w r q a g = record { sinks = a; swaps = omega arith; caused = g }

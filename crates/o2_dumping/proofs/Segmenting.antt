@@ -27,10 +27,6 @@ pub block_is : (bs : BlocksThere) (key k n : ℕ) (o : Option Entry) → Some n 
 block_is bs key k n None e = cc
 block_is bs key k n (Some x) e = sym (get_or_from_slice_get (blocks_of bs key) k n 0 (sym e))
 
-pub block_there : (bs : BlocksThere) (key k : ℕ) (o : Option Entry) → IsSome o → k < length (blocks_of bs key) → None ≡ block_of bs key k o → ⊥
-block_there bs key k None h l e = cc
-block_there bs key k (Some x) h l e = let t : slice_get (blocks_of bs key) k ≡ Some (get_or (blocks_of bs key) k 0) = slice_get-get_or (blocks_of bs key) k 0 l in cc
-
 pub blocks_next : (block : ℕ → List ℕ) (bs : List ℕ) (k n : ℕ) → k < length bs → n ≡ get_or bs k 0
     → flat_map block_bytes (map (block_told block) (drop k bs)) ≡ block_bytes (block_told block n) ++ flat_map block_bytes (map (block_told block) (drop (k + 1) bs))
 blocks_next block bs k n l e =

@@ -17,6 +17,7 @@ use Rattle.o2_store.specs.declared.brought.Place.{Place as PlaceThere}
 use Rattle.o2_store.specs.declared.brought.Place.TheVariants as there
 use Rattle.o2_store.specs.Shelf.{IsSegmentAt, IsShelf, Shelf, entry, kept_of, place_of, shown_at, shown_out}
 use Rattle.o2_swapmap.specs.Piles.{NoneTwice, all_of, blocks_of}
+use Rattle.o2_dumping.specs.Apart.{AreApart, AreBlocksApart, IsPlaceApart}
 use Rattle.o2_dumping.specs.Fits.{AreLong, FitsAt, IsFitPlace}
 use Rattle.o2_dumping.specs.Told.{block_told, blocks_told, place_told, segment_told}
 
@@ -56,7 +57,7 @@ map_two : {X Y : Type 0} (f : X → Y) (xs : List X) (y : X) → map f (xs ++ y 
 map_two f [] y = refl
 map_two f (x ∷ xs) y = ap (λ z. f x ∷ z) (map_two f xs y)
 
-module _ (s : Shelf) (block : ℕ → List ℕ) (blocks : ℕ) (law : IsLawful s) (enough : all_of s.swap ≤ blocks) (few : blocks < 2 ^ 32) where
+module _ (s : Shelf) (block : ℕ → List ℕ) (blocks : ℕ) (law : IsLawful s) (enough : all_of s.swap ≤ blocks) where
   -- ---- blocks
 
   not_in : (number : ℕ) (ns : List ℕ) → ((i : ℕ) → i < length ns → get_or ns i 0 ≢ number) → is_among number (map (block_told block) ns) ≡ false
@@ -107,23 +108,6 @@ module _ (s : Shelf) (block : ℕ → List ℕ) (blocks : ℕ) (law : IsLawful s
         (both (nat_lt number blocks) (is_unused (map (segment_told s block) before) number) (grind (arith, nat_tests)) (ap not (none_has before h)))
         (ap not (own_less own rest e long))
 
-  blocks_whole : (n : ℕ) (before own rest : List ℕ) → AreBelow n before → blocks_of s.swap n ≡ own ++ rest → AreLong block (blocks_of s.swap n) (length (blocks_of s.swap n))
-      → AreBlocksWhole blocks (map (segment_told s block) before) (map (block_told block) own) (map (block_told block) rest)
-  blocks_whole n before own [] h e long = tt
-  blocks_whole n before own (b ∷ rest) h e long =
-      let at : get_or (blocks_of s.swap n) (length own) 0 ≡ b =
-      ap (λ (z : List ℕ). get_or z (length own) 0) e ∙ (let z : length own + 0 ≡ length own = omega arith in ap (λ (i : ℕ). get_or (own ++ b ∷ rest) i 0) (sym z) ∙ get_or-append-add own (b ∷ rest) 0 0) in
-      let inside : length own < length (blocks_of s.swap n) = omega (arith, ap length e, length-append own (b ∷ rest)) in
-      let low = law.below n (length own) inside in (
-        record {
-          number = omega (arith, low, at, enough, few);
-          free = ap (is_block blocks (map (segment_told s block) before) (map (block_told block) own)) (sym at) ∙ block_is n (length own) inside before own (b ∷ rest) h e refl;
-          size = ap (λ (z : ℕ). length (block z)) (sym at) ∙ long (length own) inside;
-        },
-        subst (λ (z : List Block). AreBlocksWhole blocks (map (segment_told s block) before) z (map (block_told block) rest)) (map_two (block_told block) own b)
-            (blocks_whole n before (own ++ b ∷ []) rest h (e ∙ sym (append_assoc own (b ∷ []) rest)) long),
-      )
-
   -- ---- ranges
 
   module _ (n : ℕ) (r : ℕ × ℕ) (here : place_of s n ≡ Some r) (long : r.1 ≡ 16 * (((entry s n).size + 15) / 16)) where
@@ -166,82 +150,145 @@ module _ (s : Shelf) (block : ℕ → List ℕ) (blocks : ℕ) (law : IsLawful s
         both (nat_le (r.0 + rounded (entry s n).size) (length s.memory)) (is_free (map (segment_told s block) before) r.0 (entry s n).size) (grind (arith, nat_tests))
         (ap not (none_met before h each))
 
-  -- ---- one segment
+  -- ---- apart, whatever the blocks hold
 
-  module _ (n : ℕ) (l : n < length s.entries) (live : IsSome (slot_at s.entries n)) (fits_n : FitsAt s block n) (before : List ℕ) (h : AreBelow n before) where
-    each : (k : ℕ) → k < n → IsSegmentAt s k
-    each k m = law.shelf.each k (omega (arith, l, m))
+  blocks_apart : (n : ℕ) (before own rest : List ℕ) → AreBelow n before → blocks_of s.swap n ≡ own ++ rest
+      → AreBlocksApart blocks (map (segment_told s block) before) (map (block_told block) own) (map (block_told block) rest)
+  blocks_apart n before own [] h e = tt
+  blocks_apart n before own (b ∷ rest) h e =
+      let at : get_or (blocks_of s.swap n) (length own) 0 ≡ b =
+      ap (λ (z : List ℕ). get_or z (length own) 0) e ∙ (let z : length own + 0 ≡ length own = omega arith in ap (λ (i : ℕ). get_or (own ++ b ∷ rest) i 0) (sym z) ∙ get_or-append-add own (b ∷ rest) 0 0) in
+      let inside : length own < length (blocks_of s.swap n) = omega (arith, ap length e, length-append own (b ∷ rest)) in (
+        ap (is_block blocks (map (segment_told s block) before) (map (block_told block) own)) (sym at) ∙ block_is n (length own) inside before own (b ∷ rest) h e refl,
+        subst (λ (z : List Block). AreBlocksApart blocks (map (segment_told s block) before) z (map (block_told block) rest)) (map_two (block_told block) own b)
+            (blocks_apart n before (own ++ b ∷ []) rest h (e ∙ sym (append_assoc own (b ∷ []) rest))),
+      )
 
-    at : IsSegmentAt s n
-    at = law.shelf.each n l
-
-    abbrev found : List SegmentEntry
-    found = map (segment_told s block) before
-
-    kept_fits : (range : Option (ℕ × ℕ)) → kept_of range (entry s n) ≤ (entry s n).size
-    kept_fits None = at.kept
-    kept_fits (Some r) = omega arith
-
-    -- the place of a segment that is out of memory
-    out_fits : (o : Option (ℕ × ℕ)) → (entry s n).image ≡ o → is_place (place_number (place_told (shown_out o (entry s n).kept) (blocks_told s block n))) (entry s n).kept (entry s n).size ≡ true
-    out_fits (Some p) is = refl
-    out_fits None is = by ((entry s n).kept == 0) refl
+  module _ (n : ℕ) (l : n < length s.entries) (before : List ℕ) (h : AreBelow n before) where
+    out_apart : (o : Option (ℕ × ℕ))
+        → IsPlaceApart (length s.memory) blocks (map (segment_told s block) before) (entry s n).size (place_told (shown_out o (entry s n).kept) (blocks_told s block n))
+    out_apart (Some p) = tt
+    out_apart None = by ((entry s n).kept == 0)
       where
-        by : (b : Bool) → ((entry s n).kept == 0) ≡ b → is_place (place_number (place_told (cond b there.Zeros there.Blocks) (blocks_told s block n))) (entry s n).kept (entry s n).size ≡ true
-        by true q = q
-        by false q = refl
+        by : (b : Bool) → IsPlaceApart (length s.memory) blocks (map (segment_told s block) before) (entry s n).size (place_told (cond b there.Zeros there.Blocks) (blocks_told s block n))
+        by true = tt
+        by false = blocks_apart n before [] (blocks_of s.swap n) h refl
 
-    place_fits : (range : Option (ℕ × ℕ)) → is_place (place_number (place_told (shown_at range (entry s n)) (blocks_told s block n))) (kept_of range (entry s n)) (entry s n).size ≡ true
-    place_fits None = out_fits (entry s n).image refl
-    place_fits (Some r) = eq-eqb (entry s n).size (entry s n).size refl
+    place_apart : (range : Option (ℕ × ℕ)) → place_of s n ≡ range
+        → IsPlaceApart (length s.memory) blocks (map (segment_told s block) before) (entry s n).size (place_told (shown_at range (entry s n)) (blocks_told s block n))
+    place_apart None is = out_apart (entry s n).image
+    place_apart (Some r) is = range_is n r is ((law.shelf.each n l).placed r.0 r.1 is) before h (λ k m. law.shelf.each k (omega (arith, l, m)))
 
-    out_whole : (o : Option (ℕ × ℕ)) → (entry s n).image ≡ o → IsFitPlace (shown_out o (entry s n).kept)
-        → (shown_out o (entry s n).kept ≡ there.Blocks → AreLong block (blocks_of s.swap n) (length (blocks_of s.swap n)))
-        → IsPlaceWhole (length s.memory) blocks found (entry s n).size (entry s n).kept (place_told (shown_out o (entry s n).kept) (blocks_told s block n))
-    out_whole (Some p) is fit long = fit
-    out_whole None is fit long = by ((entry s n).kept == 0) refl
-      where
-        by : (b : Bool) → ((entry s n).kept == 0) ≡ b → IsPlaceWhole (length s.memory) blocks found (entry s n).size (entry s n).kept (place_told (cond b there.Zeros there.Blocks) (blocks_told s block n))
-        by true q = tt
-        by false q = (
-          length-map (blocks_of s.swap n) (block_told block) ∙ at.stored is,
-          blocks_whole n before [] (blocks_of s.swap n) h refl (long (ap (λ (b : Bool). cond b there.Zeros there.Blocks) q)),
+    segment_apart : IsPlaceApart (length s.memory) blocks (map (segment_told s block) before) (segment_told s block n).size (segment_told s block n).place
+    unfolding segment_told
+    segment_apart = place_apart (place_of s n) refl
+
+  pub segments_apart : (es : List (Option Entry)) (first : ℕ) (before : List ℕ) → first + length es ≤ length s.entries → AreBelow first before
+      → AreApart (length s.memory) blocks (map (segment_told s block) before) (map (segment_told s block) (live_numbers first es))
+  segments_apart [] first before l h = tt
+  segments_apart (None ∷ es) first before l h = segments_apart es (first + 1) before (omega (arith, l)) (below_more first (first + 1) before (omega arith) h)
+  segments_apart (Some x ∷ es) first before l h = (
+    segment_apart first (omega (arith, l)) before h,
+    subst (λ (z : List SegmentEntry). AreApart (length s.memory) blocks z (map (segment_told s block) (live_numbers (first + 1) es))) (map_two (segment_told s block) before first)
+        (segments_apart es (first + 1) (before ++ first ∷ []) (omega (arith, l)) (below_next first before h)),
+  )
+
+  -- ---- whole, where fields and blocks have their sizes
+
+  module _ (few : blocks < 2 ^ 32) where
+    blocks_whole : (n : ℕ) (before own rest : List ℕ) → AreBelow n before → blocks_of s.swap n ≡ own ++ rest → AreLong block (blocks_of s.swap n) (length (blocks_of s.swap n))
+        → AreBlocksWhole blocks (map (segment_told s block) before) (map (block_told block) own) (map (block_told block) rest)
+    blocks_whole n before own [] h e long = tt
+    blocks_whole n before own (b ∷ rest) h e long =
+        let at : get_or (blocks_of s.swap n) (length own) 0 ≡ b =
+        ap (λ (z : List ℕ). get_or z (length own) 0) e ∙ (let z : length own + 0 ≡ length own = omega arith in ap (λ (i : ℕ). get_or (own ++ b ∷ rest) i 0) (sym z) ∙ get_or-append-add own (b ∷ rest) 0 0) in
+        let inside : length own < length (blocks_of s.swap n) = omega (arith, ap length e, length-append own (b ∷ rest)) in
+        let low = law.below n (length own) inside in (
+          record {
+            number = omega (arith, low, at, enough, few);
+            free = ap (is_block blocks (map (segment_told s block) before) (map (block_told block) own)) (sym at) ∙ block_is n (length own) inside before own (b ∷ rest) h e refl;
+            size = ap (λ (z : ℕ). length (block z)) (sym at) ∙ long (length own) inside;
+          },
+          subst (λ (z : List Block). AreBlocksWhole blocks (map (segment_told s block) before) z (map (block_told block) rest)) (map_two (block_told block) own b)
+              (blocks_whole n before (own ++ b ∷ []) rest h (e ∙ sym (append_assoc own (b ∷ []) rest)) long),
         )
 
-    place_whole : (range : Option (ℕ × ℕ)) → place_of s n ≡ range → IsFitPlace (shown_at range (entry s n))
-        → (shown_at range (entry s n) ≡ there.Blocks → AreLong block (blocks_of s.swap n) (length (blocks_of s.swap n)))
-        → IsPlaceWhole (length s.memory) blocks found (entry s n).size (kept_of range (entry s n)) (place_told (shown_at range (entry s n)) (blocks_told s block n))
-    place_whole None is fit long = out_whole (entry s n).image refl fit long
-    place_whole (Some r) is fit long =
-        let size : r.1 ≡ 16 * (((entry s n).size + 15) / 16) = at.placed r.0 r.1 is in
-        let top : r.0 + r.1 ≤ s.places.size = law.within n r.0 r.1 is in
-        (omega (arith, top, law.shelf.memory, law.shelf.small), range_is n r is size before h each)
+    -- ---- one segment
 
-    pub segment_whole : IsSegmentWhole (length s.memory) blocks found (segment_told s block n)
-    unfolding segment_told
-    segment_whole = record {
-      some = at.live live;
-      most = at.sized;
-      kept = kept_fits (place_of s n);
-      fits = place_fits (place_of s n);
-      place = place_whole (place_of s n) refl fits_n.place fits_n.blocks;
-    }
+    module _ (n : ℕ) (l : n < length s.entries) (live : IsSome (slot_at s.entries n)) (fits_n : FitsAt s block n) (before : List ℕ) (h : AreBelow n before) where
+      each : (k : ℕ) → k < n → IsSegmentAt s k
+      each k m = law.shelf.each k (omega (arith, l, m))
 
-  -- ---- all of them
+      at : IsSegmentAt s n
+      at = law.shelf.each n l
 
-  pub segments_whole : (es : List (Option Entry)) (first : ℕ) (before : List ℕ) → first + length es ≤ length s.entries → ((i : ℕ) → slot_at es i ≡ slot_at s.entries (first + i)) → AreBelow first before
-      → ((i : ℕ) → i < length (live_numbers first es) → FitsAt s block (get_or (live_numbers first es) i 0))
-      → AreSegmentsWhole (length s.memory) blocks (map (segment_told s block) before) (map (segment_told s block) (live_numbers first es))
-  segments_whole [] first before l same h fits = tt
-  segments_whole (None ∷ es) first before l same h fits =
-      segments_whole es (first + 1) before (omega (arith, l))
-      (λ i. same (suc i) ∙ (let z : first + suc i ≡ first + 1 + i = omega arith in ap (slot_at s.entries) z))
-      (below_more first (first + 1) before (omega arith) h) fits
-  segments_whole (Some x ∷ es) first before l same h fits =
-      let here : slot_at s.entries first ≡ Some x = (let z : first + 0 ≡ first = omega arith in ap (slot_at s.entries) (sym z) ∙ sym (same 0)) in (
-        segment_whole first (omega (arith, l)) (ap is_some here) (fits 0 (omega arith)) before h,
-        subst (λ (z : List SegmentEntry). AreSegmentsWhole (length s.memory) blocks z (map (segment_told s block) (live_numbers (first + 1) es))) (map_two (segment_told s block) before first)
-            (segments_whole es (first + 1) (before ++ first ∷ []) (omega (arith, l))
-            (λ i. same (suc i) ∙ (let z : first + suc i ≡ first + 1 + i = omega arith in ap (slot_at s.entries) z))
-            (below_next first before h) (λ i m. fits (suc i) (omega (arith, m)))),
-      )
+      abbrev found : List SegmentEntry
+      found = map (segment_told s block) before
+
+      kept_fits : (range : Option (ℕ × ℕ)) → kept_of range (entry s n) ≤ (entry s n).size
+      kept_fits None = at.kept
+      kept_fits (Some r) = omega arith
+
+      -- the place of a segment that is out of memory
+      out_fits : (o : Option (ℕ × ℕ)) → (entry s n).image ≡ o → is_place (place_number (place_told (shown_out o (entry s n).kept) (blocks_told s block n))) (entry s n).kept (entry s n).size ≡ true
+      out_fits (Some p) is = refl
+      out_fits None is = by ((entry s n).kept == 0) refl
+        where
+          by : (b : Bool) → ((entry s n).kept == 0) ≡ b → is_place (place_number (place_told (cond b there.Zeros there.Blocks) (blocks_told s block n))) (entry s n).kept (entry s n).size ≡ true
+          by true q = q
+          by false q = refl
+
+      place_fits : (range : Option (ℕ × ℕ)) → is_place (place_number (place_told (shown_at range (entry s n)) (blocks_told s block n))) (kept_of range (entry s n)) (entry s n).size ≡ true
+      place_fits None = out_fits (entry s n).image refl
+      place_fits (Some r) = eq-eqb (entry s n).size (entry s n).size refl
+
+      out_whole : (o : Option (ℕ × ℕ)) → (entry s n).image ≡ o → IsFitPlace (shown_out o (entry s n).kept)
+          → (shown_out o (entry s n).kept ≡ there.Blocks → AreLong block (blocks_of s.swap n) (length (blocks_of s.swap n)))
+          → IsPlaceWhole (length s.memory) blocks found (entry s n).size (entry s n).kept (place_told (shown_out o (entry s n).kept) (blocks_told s block n))
+      out_whole (Some p) is fit long = fit
+      out_whole None is fit long = by ((entry s n).kept == 0) refl
+        where
+          by : (b : Bool) → ((entry s n).kept == 0) ≡ b → IsPlaceWhole (length s.memory) blocks found (entry s n).size (entry s n).kept (place_told (cond b there.Zeros there.Blocks) (blocks_told s block n))
+          by true q = tt
+          by false q = (
+            length-map (blocks_of s.swap n) (block_told block) ∙ at.stored is,
+            blocks_whole n before [] (blocks_of s.swap n) h refl (long (ap (λ (b : Bool). cond b there.Zeros there.Blocks) q)),
+          )
+
+      place_whole : (range : Option (ℕ × ℕ)) → place_of s n ≡ range → IsFitPlace (shown_at range (entry s n))
+          → (shown_at range (entry s n) ≡ there.Blocks → AreLong block (blocks_of s.swap n) (length (blocks_of s.swap n)))
+          → IsPlaceWhole (length s.memory) blocks found (entry s n).size (kept_of range (entry s n)) (place_told (shown_at range (entry s n)) (blocks_told s block n))
+      place_whole None is fit long = out_whole (entry s n).image refl fit long
+      place_whole (Some r) is fit long =
+          let size : r.1 ≡ 16 * (((entry s n).size + 15) / 16) = at.placed r.0 r.1 is in
+          let top : r.0 + r.1 ≤ s.places.size = law.within n r.0 r.1 is in
+          (omega (arith, top, law.shelf.memory, law.shelf.small), range_is n r is size before h each)
+
+      pub segment_whole : IsSegmentWhole (length s.memory) blocks found (segment_told s block n)
+      unfolding segment_told
+      segment_whole = record {
+        some = at.live live;
+        most = at.sized;
+        kept = kept_fits (place_of s n);
+        fits = place_fits (place_of s n);
+        place = place_whole (place_of s n) refl fits_n.place fits_n.blocks;
+      }
+
+    -- ---- all of them
+
+    pub segments_whole : (es : List (Option Entry)) (first : ℕ) (before : List ℕ) → first + length es ≤ length s.entries → ((i : ℕ) → slot_at es i ≡ slot_at s.entries (first + i)) → AreBelow first before
+        → ((i : ℕ) → i < length (live_numbers first es) → FitsAt s block (get_or (live_numbers first es) i 0))
+        → AreSegmentsWhole (length s.memory) blocks (map (segment_told s block) before) (map (segment_told s block) (live_numbers first es))
+    segments_whole [] first before l same h fits = tt
+    segments_whole (None ∷ es) first before l same h fits =
+        segments_whole es (first + 1) before (omega (arith, l))
+        (λ i. same (suc i) ∙ (let z : first + suc i ≡ first + 1 + i = omega arith in ap (slot_at s.entries) z))
+        (below_more first (first + 1) before (omega arith) h) fits
+    segments_whole (Some x ∷ es) first before l same h fits =
+        let here : slot_at s.entries first ≡ Some x = (let z : first + 0 ≡ first = omega arith in ap (slot_at s.entries) (sym z) ∙ sym (same 0)) in (
+          segment_whole first (omega (arith, l)) (ap is_some here) (fits 0 (omega arith)) before h,
+          subst (λ (z : List SegmentEntry). AreSegmentsWhole (length s.memory) blocks z (map (segment_told s block) (live_numbers (first + 1) es))) (map_two (segment_told s block) before first)
+              (segments_whole es (first + 1) (before ++ first ∷ []) (omega (arith, l))
+              (λ i. same (suc i) ∙ (let z : first + suc i ≡ first + 1 + i = omega arith in ap (slot_at s.entries) z))
+              (below_next first before h) (λ i m. fits (suc i) (omega (arith, m)))),
+        )

@@ -10,7 +10,7 @@ ghost use Rattle.o2_dumping.specs.Puts.{HasCauses, IsRead, Writes};
 ghost use Rattle.o2_dumping.specs.Told.{block_told, blocks_told};
 
 use crate::parts::Wrote;
-use o2_outer::{Dev, Put, Sink, SwapDevice};
+use o2_outer::{Dev, Put, Sink, SwapDevice, read_block};
 use o2_place::SegId;
 use o2_store::Store;
 
@@ -27,7 +27,7 @@ fn put_numbered<C: Sink>(number: u32, block: &[u8; 512], console: &mut C) -> Put
     }
 }
 
-// Reads a block, and puts it with its number in front.
+// Reads a block as far as the device knows it, and puts it with its number in front.
 fn put_block<C: Sink, S: SwapDevice>(number: u32, console: &mut C, swap: &mut S) -> Wrote
     requires { number < S.blocks swap.old }
     ensures text { IsTrue (S.told swap.new) → Writes (C.taken console.old) (C.taken console.new)
@@ -40,7 +40,7 @@ fn put_block<C: Sink, S: SwapDevice>(number: u32, console: &mut C, swap: &mut S)
         (S.faults swap.old) (S.faults swap.new) result }
 {
     let mut block = [0u8; 512];
-    match swap.read(number, &mut block) {
+    match read_block(number, &mut block, swap) {
         Dev::Failed => return Wrote::SwapFault,
         Dev::Done => {}
     }

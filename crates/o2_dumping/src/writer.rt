@@ -1,5 +1,5 @@
 // The writer of a core image.
-ghost use Rattle.std.specs.Prelude.{◌≡◌, ℕ, ◌+◌, ◌<◌, ◌≤◌, ◌^◌, ◌++◌, length, flat_map, slice_get, IsTrue, Ok, Some, codes};
+ghost use Rattle.std.specs.Prelude.{◌≡◌, ℕ, ◌+◌, ◌<◌, ◌≤◌, ◌^◌, ◌++◌, List, length, flat_map, slice_get, IsTrue, Ok, Some, codes};
 ghost use Rattle.o2_outer.specs.Texts.{Rose};
 ghost use Rattle.o2_outer.specs.Answers.{Takes, OnFailed};
 ghost use Rattle.o2_swapmap.specs.Piles.{all_of};
@@ -10,6 +10,7 @@ ghost use Rattle.o2_dump.specs.CoreImage.{core_of};
 ghost use Rattle.o2_dump_laws.specs.Whole.{IsWhole};
 ghost use Rattle.o2_regions.specs.Maps.{held_at};
 ghost use Rattle.o2_service.specs.Told.{IsHeldWell};
+ghost use Rattle.o2_dumping.specs.Apart.{IsApart};
 ghost use Rattle.o2_dumping.specs.Fits.{IsFitHold, IsFitRow};
 ghost use Rattle.o2_dumping.specs.Puts.{HasCauses, IsRead, Writes};
 ghost use Rattle.o2_dumping.specs.Told.{core_told, descriptor_at, numbers, processes_from, Row};
@@ -30,6 +31,10 @@ fn head_piece(machine: &Parts<'_>) -> Piece
     ensures text { result ≡ codes "OS2CORE1" ++ long (length machine.now.store.now.memory) ++ long machine.now.blocks
         ++ long (length (numbers machine.now.store.now)) ++ long (length machine.now.processes.now)
         ++ quad machine.now.steps ++ quad machine.now.console }
+    // Whatever the blocks hold, the segments of what is told lie apart.
+    ensures apart { all_of machine.now.store.now.swap ≤ machine.now.blocks → (block : ℕ → List ℕ) (c : Core)
+        → c ≡ core_told machine.now.store.now machine.now.regions.now machine.now.processes.now
+        block machine.now.blocks machine.now.steps machine.now.console → IsApart c }
 {
     machine.store.law();
     let mut piece = Piece::new();
@@ -88,6 +93,10 @@ pub fn write<C: Sink, S: SwapDevice>(machine: &Parts<'_>, console: &mut C, swap:
         → c ≡ core_told machine.now.store.now machine.now.regions.now machine.now.processes.now
         (S.block swap.old) machine.now.blocks machine.now.steps machine.now.console
         → IsWhole c × (core_of (core_bytes c) ≡ Ok c) }
+    // Whole or not, and whatever the blocks hold: the ranges of its segments share no byte, and no block is named twice.
+    ensures apart { all_of machine.now.store.now.swap ≤ machine.now.blocks → (block : ℕ → List ℕ) (c : Core)
+        → c ≡ core_told machine.now.store.now machine.now.regions.now machine.now.processes.now
+        block machine.now.blocks machine.now.steps machine.now.console → IsApart c }
     ensures read { IsRead (S.blocks swap.old) (S.blocks swap.new)
         (S.told swap.old) (S.told swap.new) (S.block swap.old) (S.block swap.new) }
     // Where no segment has blocks the device isn't read.

@@ -11,3 +11,4 @@ pub mod Reallocs
 pub mod Changing
 pub mod Asking
 pub mod Following
+pub mod Firsts

@@ -9,7 +9,7 @@ use Rattle.o2_regions.specs.declared.held.Held.{Held}
 use Rattle.o2_regions.specs.declared.held.Region.{Region}
 use Rattle.o2_regions.specs.Maps.{Maps, held_at, is_held, is_reserved, region_of, some_holds}
 use Rattle.o2_regions.specs.Kept.{AreKept}
-use Rattle.o2_regions.proofs.Reserves.{holder_in, is_private, is_shared, unheld_shared}
+use Rattle.o2_regions.proofs.Reserves.{holder_in, is_private, unheld_shared}
 use Rattle.o2_huge.specs.Growth.{AreMembers, AreVacant, IsMemberAt, IsVacant}
 use Rattle.o2_huge.specs.Resized.{is_member, is_member_in}
 
@@ -54,9 +54,6 @@ vacant_high m pid i kept high reserved none = record { reserved = reserved; free
 
 pub held_low : (m : Maps) (pid i : ℕ) → i < 4096 → is_held m (region_of pid i) i ≡ is_some (held_at m pid i)
 held_low m pid i low = ap (λ (g : Region). is_held m g i) (is_private pid i low)
-
-pub held_high : (m : Maps) (pid i : ℕ) → 4096 ≤ i → is_held m (region_of pid i) i ≡ some_holds m i m.processes
-held_high m pid i high = ap (λ (g : Region). is_held m g i) (is_shared pid i high)
 
 pub vacant_none : (m : Maps) (pid from : ℕ) → AreVacant m pid from (from + 0)
 vacant_none m pid from i low high = absurd (omega (arith, low, high))

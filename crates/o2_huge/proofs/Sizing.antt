@@ -35,9 +35,6 @@ size_read s id size live e =
 pub size_known : (s : Shelf) (id : SegId) → IsSome (entry_of s id) → ◌≡◌ {A = Option ℕ} None (option_map (λ (e : Entry). e.size) (entry_of s id)) → ⊥
 size_known s id live e = let z : ◌≡◌ {A = Option ℕ} None (Some (entry s id.key).size) = e ∙ ap (option_map (λ (x : Entry). x.size)) (entry_is s id.age id.key live) in cc
 
-pub flags_known : (s : Shelf) (id : SegId) → IsSome (entry_of s id) → ◌≡◌ {A = Option Attr} None (option_map (λ (e : Entry). e.attr) (entry_of s id)) → ⊥
-flags_known s id live e = let z : ◌≡◌ {A = Option Attr} None (Some (entry s id.key).attr) = e ∙ ap (option_map (λ (x : Entry). x.attr)) (entry_is s id.age id.key live) in cc
-
 -- the change, where it has the size, and where it hasn't
 pub not_sized : (s : Shelf) (size bytes : ℕ) (h : Held) → bytes ≡ full_size size → (eqb (entry s h.id.key).size bytes) ≡ true → sized_there s size (Some h) ≡ []
 not_sized s size bytes h e same = cond-true (eqb (entry s h.id.key).size (full_size size)) [] _ (ap (eqb (entry s h.id.key).size) (sym e) ∙ same)
@@ -60,9 +57,6 @@ unfolding with_changes
 size_matches s t m n images told before after id size a = record { world = λ p w es em ei eb tells q. a.world p w es em ei eb tells q }
 
 -- How many live stays.
-
-suc_same : (n : ℕ) → suc n ≡ n + 1
-suc_same n = omega arith
 
 pub live_same : (first : ℕ) (es fs : List (Option Entry)) → length fs ≡ length es → ((k : ℕ) → is_some (slot_at fs k) ≡ is_some (slot_at es k)) → length (live_numbers first fs) ≡ length (live_numbers first es)
 live_same first [] [] long same = refl

@@ -4,7 +4,8 @@ use Rattle.o2_isa.specs.declared.cpu.Cpu.{Cpu}
 use Rattle.o2_place.specs.declared.seg_id.SegId.{SegId}
 use Rattle.o2_regions.specs.declared.held.Held.{Held}
 use Rattle.o2_regions.specs.Maps.{Maps, held_at, is_reserved, region_of}
-use Rattle.o2_store.specs.Shelf.{Shelf, entry, entry_of}
+use Rattle.o2_store.specs.Shelf.{Shelf, entry, entry_of, place_of}
+use Rattle.o2_store.specs.Sizes.{all_wanted_at, stays}
 use Rattle.o2_world.specs.Changes.{Change, Drops, Resizes}
 use Rattle.o2_world.specs.HugeRulings.{names_one, segments_of}
 use Rattle.o2_world.specs.Rulings.{full_size, indexes}
@@ -86,3 +87,15 @@ pub record FirstSized (s : Shelf) (cs : List Change) (says : SegId → ℕ → T
   pub rest : List Change
   pub change : cs ≡ Resizes id.age size ∷ rest
   pub holds : says id size
+
+-- The first change of a list is that of a name to a size, and of each live segment of this name this is so.
+pub record EachFirstSized (s : Shelf) (cs : List Change) (says : SegId → ℕ → Type 0) : Type 0 where
+  pub name : ℕ
+  pub size : ℕ
+  pub rest : List Change
+  pub change : cs ≡ Resizes name size ∷ rest
+  pub each : (id : SegId) → IsSome (entry_of s id) → id.age ≡ name → says id size
+
+-- a segment lacks room for a size: it is in memory, is to stay there, and with all that stays it doesn't fit
+abbrev pub LacksRoomFor : Shelf → List SegId → SegId → ℕ → Type 0
+LacksRoomFor s keep id size = IsSome (place_of s id.key) × (stays s id.key keep ≡ true) × (s.places.size < all_wanted_at s id.key keep size)

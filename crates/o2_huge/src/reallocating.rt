@@ -28,7 +28,7 @@ ghost use Rattle.o2_segs.specs.Answers.{stop_of};
 ghost use Rattle.o2_segs.specs.Limits.{KeepsLimits};
 ghost use Rattle.o2_segs.specs.Made.{IsStop};
 ghost use Rattle.o2_huge.specs.Frames.{FollowsRuling, HoldsRun, IsKnownBy, MayHave, SizesRun, StopsFor};
-ghost use Rattle.o2_huge.specs.Growth.{AreMembers, AreVacant, IsVacant, bytes_there, is_of_run, last_kept, last_size, size_there, sized_there};
+ghost use Rattle.o2_huge.specs.Growth.{AreMembers, AreVacant, EachFirstSized, IsVacant, bytes_there, LacksRoomFor, is_of_run, last_kept, last_size, size_there, sized_there};
 ghost use Rattle.o2_huge.specs.Members.{MayMake};
 ghost use Rattle.o2_huge.specs.Resized.{KeepsRest, MatchesChanged, MatchesResized, MatchesSized, changed_in, is_done, is_member_in, run_count, run_fault, sized_last};
 
@@ -315,6 +315,8 @@ fn resize_member<S: SwapDevice>(
 
     ensures stops { StopsFor store.old keep.now (sized_there store.old size (held_at regions.old pid index))
         (result ≡ Some Roomed.NoRoom) (result ≡ Some Roomed.SwapFull) (IsIdle store.new swap.old swap.new) }
+    ensures always_no_room { EachFirstSized store.old (sized_there store.old size (held_at regions.old pid index)) (LacksRoomFor store.old keep.now)
+        → result ≡ Some Roomed.NoRoom }
     ensures load { result ≡ Some Roomed.SwapFull → all_of store.old.swap < swap_load store.old }
 {
     regions.law();
@@ -430,6 +432,8 @@ fn resize_run<S: SwapDevice>(
 
     ensures stops { StopsFor store.old keep.now (sized_last store.old regions.old pid run.first there segs part)
         (result ≡ Roomed.NoRoom) (result ≡ Roomed.SwapFull) (IsIdle store.new swap.old swap.new) }
+    ensures always_no_room { EachFirstSized store.old (sized_last store.old regions.old pid run.first there segs part) (LacksRoomFor store.old keep.now)
+        → result ≡ Roomed.NoRoom }
     ensures load { result ≡ Roomed.SwapFull → all_of store.old.swap < swap_load store.old }
 {
     let last = last_of(run.first, there, segs, part);
@@ -472,6 +476,10 @@ pub fn realloc_huge<S: SwapDevice>(
     ensures stops { (p : Parts) (o : Others) → IsKnownBy store.old regions.old p o
         → StopsFor store.old keep.now (huge_reallocation (known_in p o) pid segs part sel cpu.old).changes
         (result ≡ Roomed.NoRoom) (result ≡ Roomed.SwapFull) (IsIdle store.new swap.old swap.new) }
+    // It stops for room exactly where the ruling's first change is that of a size, and its segment lacks room for it.
+    ensures always_no_room { (p : Parts) (o : Others) → IsKnownBy store.old regions.old p o
+        → EachFirstSized store.old (huge_reallocation (known_in p o) pid segs part sel cpu.old).changes (LacksRoomFor store.old keep.now)
+        → result ≡ Roomed.NoRoom }
     ensures load { result ≡ Roomed.SwapFull → all_of store.old.swap < swap_load store.old }
     ensures sizes { SizesRun images.now keep.now store.old regions.old store.new regions.new (if is_done result then 4096 else 0) }
     ensures device { KeepsDevice S.blocks S.told S.faults swap.old swap.new
@@ -516,6 +524,9 @@ fn realloc_run<S: SwapDevice>(
     ensures stops { (p : Parts) (o : Others) → IsKnownBy store.old regions.old p o
         → StopsFor store.old keep.now (huge_reallocation (known_in p o) pid segs part sel cpu.old).changes
         (result ≡ Roomed.NoRoom) (result ≡ Roomed.SwapFull) (IsIdle store.new swap.old swap.new) }
+    ensures always_no_room { (p : Parts) (o : Others) → IsKnownBy store.old regions.old p o
+        → EachFirstSized store.old (huge_reallocation (known_in p o) pid segs part sel cpu.old).changes (LacksRoomFor store.old keep.now)
+        → result ≡ Roomed.NoRoom }
     ensures load { result ≡ Roomed.SwapFull → all_of store.old.swap < swap_load store.old }
     ensures sizes { SizesRun images.now keep.now store.old regions.old store.new regions.new (if is_done result then 4096 else 0) }
     ensures device { KeepsDevice S.blocks S.told S.faults swap.old swap.new

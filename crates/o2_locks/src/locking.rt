@@ -69,6 +69,12 @@ pub fn lock_seg<S: SwapDevice>(
         → IsSome (place_of store.old k) → IsSome (place_of store.new k) }
     ensures no_room { result ≡ Roomed.NoRoom → IfSome (if is_local sel then held_at regions.old pid (sel / 8) else None)
         (λ h. store.old.places.size < all_wanted store.old h.id.key keep.now) }
+    // Room lacks exactly at a first lock that isn't refused, of a segment that is out of memory and doesn't fit.
+    ensures absent { result ≡ Roomed.NoRoom → IfSome (if is_local sel then held_at regions.old pid (sel / 8) else None)
+        (λ h. place_of store.old h.id.key ≡ None) }
+    ensures always_no_room { IsUnrefused result → IfSome (if is_local sel then held_at regions.old pid (sel / 8) else None)
+        (λ h. (entry store.old h.id.key).attr.lock ≡ 0 → place_of store.old h.id.key ≡ None
+        → store.old.places.size < all_wanted store.old h.id.key keep.now → result ≡ Roomed.NoRoom) }
     ensures loads { result ≡ Roomed.SwapFull
         → (all_of store.old.swap < swap_load store.old)
         × (store.old.places.size < live_load store.old) }
@@ -112,6 +118,9 @@ fn lock<S: SwapDevice>(
     ensures kept { (k : ℕ) → named_in store.old.entries keep.now k ≡ true
         → IsSome (place_of store.old k) → IsSome (place_of store.new k) }
     ensures no_room { result ≡ Roomed.NoRoom → store.old.places.size < all_wanted store.old id.key keep.now }
+    ensures absent { result ≡ Roomed.NoRoom → place_of store.old id.key ≡ None }
+    ensures always_no_room { IsUnrefused result → (entry store.old id.key).attr.lock ≡ 0 → place_of store.old id.key ≡ None
+        → store.old.places.size < all_wanted store.old id.key keep.now → result ≡ Roomed.NoRoom }
     ensures loads { result ≡ Roomed.SwapFull
         → (all_of store.old.swap < swap_load store.old)
         × (store.old.places.size < live_load store.old) }

@@ -149,12 +149,12 @@ module _ (m : Machine) (device : ℕ) (block : ℕ → List ℕ) (s : Setting) (
     lines = ap (λ (l : List Line). length l) (lines_behind w (next_of m.sched) p made) ∙ length-append w.lines made.lines ∙ omega (arith, stands.lines, puts.lines, counts.lines);
   })
 
-  pub steps_in_part : (f : World → Type 0) (j : Option (List ℕ)) → Fits true s w → (j ≡ Some w.input) ⊎ (j ≡ Some made.input) → f w ⊎ f (step s w) → GainsSome c d (λ front. IsPrefix front made.piece) → GainsSome r q (λ front. IsPrefix front (lines_text made.lines))
+  pub steps_in_part : (f : World → Type 0) (j : Option (List ℕ)) → Fits true s w → j ≡ Some made.input → f w ⊎ f (step s w) → GainsSome c d (λ front. IsPrefix front made.piece) → GainsSome r q (λ front. IsPrefix front (lines_text made.lines))
       → (q ≡ r) ⊎ Gains c d made.piece → StepsInPart f true s w j c d r q
   steps_in_part f j room left now to_console to_report in_order = record {
     runs = runs;
     room = room;
-    input = elim left [ inl same ↦ inl same | inr took ↦ inr (took ∙ ap Some (sym input_of)) ];
+    input = left ∙ ap Some (sym input_of);
     stands = now;
     to_console = rw console_of (continues_in_part made.piece (console w) c d to_console);
     to_report = rw lines_of (continues_in_part (lines_text made.lines) (lines_text w.lines) r q to_report);
@@ -275,16 +275,15 @@ module _ (m : Machine) (device : ℕ) (block : ℕ → List ℕ) (s : Setting) (
     abbrev stands_now : World → Type 0
     stands_now = StandsFor n count holds s
 
-    pub faulted : (i j : Option (List ℕ)) → IsSame m n → i ≡ Some w.input → IsSetTo (parts_in n.space count holds) s
+    pub faulted : (i j : Option (List ℕ)) → IsSame m n → IsSetTo (parts_in n.space count holds) s
         → ((next_dispatch s w).current ≡ number → (p : Process) → process_at w.processes number ≡ Some p → ActsInPart w (effect (before s w number p)) p.cpu (parts_in n.space count holds) i j c d r q)
         → ((next_dispatch s w).current ≡ number → (p : Process) → process_at w.processes number ≡ Some p → Fits true s w)
         → ((next_dispatch s w).current ≡ number → (p : Process) → process_at w.processes number ≡ Some p → AreSpelled n.space.store n.space.names w)
         → StepsInPart stands_now true s w j c d r q
-    faulted i j same left set did room spelt =
+    faulted i j same set did room spelt =
         let all = at_k (λ z p. ActsInPart w (effect (before s w z p)) p.cpu (parts_in n.space count holds) i j c d r q) (did current_is) in
         steps_in_part m device block s w here c d r q stands is.any is.some here_is stands_now j (at_k (λ z p. Fits true s w) (room current_is))
-        (elim all.input [ inl same_left ↦ inl (same_left ∙ left) | inr took ↦ inr took ])
-        (inl (same_space n m device count block holds s w stands same all.stands set (at_k (λ z p. AreSpelled n.space.store n.space.names w) (spelt current_is)))) all.to_console all.to_report all.in_order
+        all.input (inl (same_space n m device count block holds s w stands same all.stands set (at_k (λ z p. AreSpelled n.space.store n.space.names w) (spelt current_is)))) all.to_console all.to_report all.in_order
 
     module _ (i : Option (List ℕ)) (left : Space) (ran : Ran) (counts : HasCounted m n left ran.tally) (set : IsSetTo (parts_in left count holds) s)
         (did : (next_dispatch s w).current ≡ number → (p : Process) → process_at w.processes number ≡ Some p → ActsAll w number p (effect (before s w number p)) ran (parts_in left count holds) i c d r q)
@@ -327,7 +326,7 @@ module _ (m : Machine) (device : ℕ) (block : ℕ → List ℕ) (s : Setting) (
           (subst (λ (z : Bool). TakesText z r q (lines_text e.lines)) whole all.to_report)
 
       pub late : ran.whole ≡ false → StepsInPart stands_now true s w i c d r q
-      late part = steps_in_part m device block s w here c d r q stands is.any is.some here_is stands_now i fits (inr all.input) (inr now) (gains_some _ c d all.to_console)
+      late part = steps_in_part m device block s w here c d r q stands is.any is.some here_is stands_now i fits all.input (inr now) (gains_some _ c d all.to_console)
           (subst (λ (z : Bool). TakesText z r q (lines_text e.lines)) part all.to_report) (inr all.to_console)
 
     -- no step is done: the machine stands for the world before it, and there is a cause in that world

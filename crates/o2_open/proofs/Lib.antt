@@ -2,3 +2,4 @@ pub mod Telling
 pub mod Stepping
 pub mod Unstarted
 pub mod Benches
+pub mod Asking

@@ -1,7 +1,6 @@
 -- Neither a module's checks nor linking refuse it for what a start alone asks for.
 use Rattle.std.proofs.Common.{◌≡◌, ℕ, zero, suc, ◌+◌, ◌&&◌, ◌==◌, Bool, true, false, not, List, [], ◌∷◌, ◌++◌, Option, Some, None, length, subst}
 use Rattle.std.specs.Prelude.{Result, Ok, Err, IfErr, if◌then◌else◌, nat_le, option_and_then}
-use Rattle.o2_base.specs.Services.{is_built}
 use Rattle.o2_base.specs.declared.faults.NeFault.{NeFault}
 use Rattle.o2_base.specs.declared.faults.NeFault.TheVariants as ne
 use Rattle.o2_base.specs.declared.faults.SegFault.{SegFault}

@@ -5,6 +5,7 @@ ghost use Rattle.o2_conf.specs.Setting.{setting};
 ghost use Rattle.o2_open.specs.declared.fault.OpenFault.TheVariants as open_fault;
 ghost use Rattle.o2_open.specs.Loads.{Contents, Loads, Tells, Refuses, under, module_in, modules_in, machine_in};
 ghost use Rattle.o2_conf.specs.Limits.{IsWithinLimits};
+ghost use Rattle.o2_open.specs.Names.{AsksFirst};
 
 use crate::OpenFault;
 use o2_base::{Bytes, Fail, Key, MachineFault, ModuleFault, NoMemory, Which};
@@ -56,6 +57,7 @@ fn checked(alloc: Global, name: &Bytes, file: Bytes) -> Result<Module, OpenFault
 #[tactic(auto, unfolding(crate::specs::Loads::module_in))]
 pub fn module<F: Files>(alloc: Global, files: &mut F, name: &Bytes) -> Result<Module, OpenFault>
     ensures exact { (contents : Contents) → F.may_hold files.new contents → Loads (λ m. m) result (module_in contents name.now) }
+    ensures asks { F.asked files.new ≡ F.asked files.old ++ name.now ∷ [] }
     ensures refuses { IfErr result (Refuses (F.faults files.old) (F.faults files.new)) }
     ensures earlier { (contents : Contents) → F.may_hold files.new contents → F.may_hold files.old contents }
     ensures count { F.faults files.old ≤ F.faults files.new }
@@ -92,6 +94,7 @@ pub fn modules<F: Files>(
     names: &[Bytes],
 ) -> Result<Vec<Module>, OpenFault>
     ensures exact { (contents : Contents) → F.may_hold files.new contents → Loads (λ v. v.items) result (modules_in contents names.now []) }
+    ensures asks { AsksFirst names.now (F.asked files.old) (F.asked files.new) }
     ensures earlier { (contents : Contents) → F.may_hold files.new contents → F.may_hold files.old contents }
     ensures count_of { IfOk result (λ v. length v.items ≡ length names.now) }
     ensures refuses { IfErr result (Refuses (F.faults files.old) (F.faults files.new)) }
@@ -122,6 +125,7 @@ fn setting_of(alloc: Global, file: &Bytes) -> Result<Conf, OpenFault>
 #[tactic(auto, unfolding(crate::specs::Loads::machine_in))]
 pub fn machine<F: Files>(alloc: Global, files: &mut F, name: &Bytes) -> Result<Conf, OpenFault>
     ensures exact { (contents : Contents) → F.may_hold files.new contents → Loads (λ c. c) result (machine_in contents name.now) }
+    ensures asks { F.asked files.new ≡ F.asked files.old ++ name.now ∷ [] }
     ensures within { IfOk result IsWithinLimits }
     ensures refuses { IfErr result (Refuses (F.faults files.old) (F.faults files.new)) }
     ensures earlier { (contents : Contents) → F.may_hold files.new contents → F.may_hold files.old contents }

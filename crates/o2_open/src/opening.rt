@@ -1,7 +1,8 @@
 // Opening what a command runs.
-ghost use Rattle.std.specs.Prelude.{◌≡◌, ◌≤◌, ℕ, All, IfOk, IfErr, length, map, unwrap_or, [], ◌∷◌};
+ghost use Rattle.std.specs.Prelude.{◌≡◌, ◌≤◌, ℕ, All, IfOk, IfErr, length, map, unwrap_or, [], ◌∷◌, ◌++◌};
 ghost use Rattle.o2_open.specs.declared.fault.OpenFault.TheVariants as open_fault;
-ghost use Rattle.o2_open.specs.Loads.{Contents, Loads, Tells, Refuses, under, asked, link_refusal, linked_in, HasEnvironments, IsLinked, start_refusal, exe_loaded, run_loaded, bench_loaded, loaded};
+ghost use Rattle.o2_open.specs.Loads.{Contents, Loads, Tells, Refuses, under, asked, machine_in, link_refusal, linked_in, HasEnvironments, IsLinked, start_refusal, exe_loaded, run_loaded, bench_loaded, loaded};
+ghost use Rattle.o2_open.specs.Names.{AsksFirst, listed, names_in};
 ghost use Rattle.o2_dynlink.specs.Linking.{linked_of};
 ghost use Rattle.o2_image.specs.Getters.{nth, nth_list};
 ghost use Rattle.o2_image.specs.Whole.{IsRunnable};
@@ -131,6 +132,7 @@ fn only(alloc: Global, program: Module) -> Result<Vec<Module>, OpenFault>
 /// What `exe` opens: the module in a file, as the only one.
 fn open_exe<F: Files>(alloc: Global, files: &mut F, name: &Bytes) -> Result<Session, OpenFault>
     ensures exact { (contents : Contents) → F.may_hold files.new contents → Loads (λ s. s) result (exe_loaded contents name.now) }
+    ensures asks { F.asked files.new ≡ F.asked files.old ++ name.now ∷ [] }
     ensures within { IfOk result (λ s. IsWithinLimits s.conf) }
     ensures environments { IfOk result HasEnvironments }
     ensures linked { IfOk result (λ s. IsLinked s.conf s.linked) }
@@ -147,6 +149,8 @@ fn open_exe<F: Files>(alloc: Global, files: &mut F, name: &Bytes) -> Result<Sess
 /// What `run`, `check` and `dump` open: a machine file, and the modules that it names.
 fn open_run<F: Files>(alloc: Global, files: &mut F, name: &Bytes) -> Result<Session, OpenFault>
     ensures exact { (contents : Contents) → F.may_hold files.new contents → Loads (λ s. s) result (run_loaded contents name.now) }
+    ensures asks { (contents : Contents) → F.may_hold files.new contents
+        → AsksFirst (name.now ∷ listed (machine_in contents name.now)) (F.asked files.old) (F.asked files.new) }
     ensures within { IfOk result (λ s. IsWithinLimits s.conf) }
     ensures environments { IfOk result HasEnvironments }
     ensures linked { IfOk result (λ s. IsLinked s.conf s.linked) }
@@ -188,6 +192,9 @@ pub fn open<F: Files>(
     requires count { HasCount verb }
     // exactly what the definition says, over all files that would have given what came
     ensures exact { (contents : Contents) → F.may_hold files.new contents → Loads (λ s. s) result (loaded verb contents name.now) }
+    // it asks for its operand and for the modules that a machine file lists, for each once, and for no other file
+    ensures asks { (contents : Contents) → F.may_hold files.new contents
+        → AsksFirst (names_in verb contents name.now) (F.asked files.old) (F.asked files.new) }
     // the setting is within its limits
     ensures within { IfOk result (λ s. IsWithinLimits s.conf) }
     ensures environments { IfOk result HasEnvironments }

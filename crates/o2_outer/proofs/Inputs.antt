@@ -136,8 +136,3 @@ adds_after old now new into n same over x = record {
   short = x.short;
   ended = λ e. x.ended (over e);
 }
-
--- a read that failed leaves it as it was
-pub past_kept : (given : List ℕ) (e : Bool) (h k : ℕ) → e ≡ false → stream_past given e h ≡ stream_past given e k
-past_kept given true h k is = absurd (cc)
-past_kept given false h k is = refl

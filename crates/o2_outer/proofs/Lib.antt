@@ -6,3 +6,4 @@ pub mod Inputs
 pub mod Walks
 pub mod Windows
 pub mod Filled
+pub mod Known

@@ -32,10 +32,6 @@ takes_none a put.Failed = puts_none [] a
 pub gains_some : (p : List ℕ) (a b : Option (List ℕ)) → Gains a b p → GainsSome a b (λ front. IsPrefix front p)
 gains_some p a b g = λ t e. (p, g t e, ([], sym (append-nil p)))
 
-pub takes_all : (p : List ℕ) (a b : Option (List ℕ)) (r : Put) → Gains a b p → Takes a b p r
-takes_all p a b put.Done g = g
-takes_all p a b put.Failed g = gains_some p a b g
-
 pub continues_by : (p low : List ℕ) (a b : Option (List ℕ)) → Gains a b p → Continues a b low (low ++ p)
 continues_by p low a b g = λ t e. g (t ++ low) e ∙ ap Some (append_assoc t low p)
 

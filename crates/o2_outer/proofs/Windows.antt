@@ -122,6 +122,3 @@ has_as old new i x s p = record {
 
 pub held_as : (old new : Window) (i : ℕ) (x y : List ℕ) → IsAsBefore old new → has_block old i x → has_block new i y → y ≡ x
 held_as old new i x y s p q = has_one new.bytes new.first new.len i y x q (has_as old new i x s p)
-
-pub had_as : (old new : Window) (i : ℕ) (x : List ℕ) → IsAsBefore old new → has_block new i x → has_block old i x
-had_as old new i x s p = has_as new old i x (record { bytes = sym s.bytes; first = sym s.first; len = sym s.len }) p

@@ -1,5 +1,5 @@
 -- What a swap device over a file was asked for, the last first, and what its blocks hold by that.
-use Rattle.std.specs.Prelude.{ℕ, Bool, true, false, List, [], ◌∷◌, if◌then◌else◌, ◌==◌, ◌&&◌}
+use Rattle.std.specs.Prelude.{ℕ, Bool, true, false, List, [], ◌∷◌, if◌then◌else◌, ◌==◌, ◌&&◌, replicate}
 use Rattle.std.specs.Str.{bytes_eq}
 use Rattle.o2_outer.specs.declared.swap.Dev.{Dev}
 use Rattle.o2_outer.specs.declared.swap.Dev.TheVariants as dev
@@ -10,15 +10,15 @@ use Rattle.o2_outer.specs.declared.access.Access.TheVariants.{Read, Written, Los
 abbrev pub Accessed : Type 0
 Accessed = ℕ × (Access × List ℕ)
 
--- what a block holds behind an access of it; nothing where a write failed
+-- what a block holds behind an access of it; zeros where a write failed
 abbrev pub held : Access → (bytes before : List ℕ) → List ℕ
 held Read bytes before = before
 held Written bytes before = bytes
-held Lost bytes before = []
+held Lost bytes before = replicate 512 0
 
--- what was written last, and nothing before the first write
+-- what was written last, and zeros before the first write
 abbrev pub content : List Accessed → ℕ → List ℕ
-content [] b = []
+content [] b = replicate 512 0
 content (a ∷ rest) b = if a.0 == b then held a.1.0 a.1.1 (content rest b) else content rest b
 
 -- whether a block is known behind an access of it: behind a write that was done, but not behind one that failed

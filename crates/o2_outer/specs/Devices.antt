@@ -4,6 +4,7 @@ use Rattle.o2_outer.specs.declared.sure.SureSwap.{SureSwap}
 use Rattle.o2_outer.specs.declared.mem_swap.MemSwap.{MemSwap}
 use Rattle.o2_outer.specs.declared.swap.Dev.{Dev}
 use Rattle.o2_outer.specs.declared.swap.Dev.TheVariants as dev
+use Rattle.o2_outer.specs.Asked.{asked_for}
 use Rattle.o2_outer.specs.Planned.{fails_next, next_call}
 
 abbrev pub swap_blocks : SureSwap → ℕ
@@ -14,6 +15,10 @@ swap_contents s = s.blocks.items
 
 abbrev pub mem_blocks : MemSwap → List (List ℕ)
 mem_blocks s = s.blocks.items
+
+-- which blocks it was asked for
+abbrev pub mem_asked : MemSwap → List ℕ
+mem_asked s = asked_for s.asked.items
 
 -- how many calls there were, and which of them are to fail
 abbrev pub mem_calls : MemSwap → ℕ

@@ -11,6 +11,7 @@ pub mod Streams
 pub mod Inputs
 pub mod Fetches
 pub mod Accesses
+pub mod Asked
 pub mod Windows
 pub mod Ahead
 pub mod Placed

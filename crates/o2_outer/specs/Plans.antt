@@ -6,6 +6,7 @@ use Rattle.o2_outer.specs.declared.mem_source.MemSource.{MemSource}
 use Rattle.o2_outer.specs.declared.mem_files.SureFiles.{SureFiles}
 use Rattle.o2_outer.specs.declared.sink.Put.{Put}
 use Rattle.o2_outer.specs.declared.sink.Put.TheVariants as put
+use Rattle.o2_outer.specs.Asked.{asked_for}
 use Rattle.o2_outer.specs.Planned.{next_call, planned_bytes}
 
 abbrev pub mem_files : MemFiles → List (List ℕ × List ℕ)
@@ -20,8 +21,15 @@ mem_fetches_to_fail f = f.fails.items
 abbrev pub mem_fetch_faults : MemFiles → ℕ
 mem_fetch_faults f = f.faults
 
+-- which names they were asked for
+abbrev pub mem_names_asked : MemFiles → List (List ℕ)
+mem_names_asked f = asked_for f.asked.items
+
 abbrev pub sure_files : SureFiles → List (List ℕ × List ℕ)
 sure_files f = f.files.items
+
+abbrev pub sure_names_asked : SureFiles → List (List ℕ)
+sure_names_asked f = asked_for f.asked.items
 
 abbrev pub mem_takes : MemSource → ℕ
 mem_takes s = s.calls

@@ -9,6 +9,7 @@ use Rattle.o2_outer.specs.Texts.{IsPrefix, Gains}
 use Rattle.o2_outer.specs.Inputs.{Past}
 use Rattle.o2_outer.specs.Fetches.{Fetched}
 use Rattle.o2_outer.specs.Accesses.{Accessed}
+use Rattle.o2_outer.specs.Asked.{asked_for}
 use Rattle.o2_outer.specs.declared.file_swap.FileSwap.{FileSwap}
 use Rattle.o2_outer.specs.declared.window.Window.{Window}
 
@@ -65,6 +66,10 @@ folder_fetches f = f.fetches.items
 -- what was done with the blocks of a file so far
 abbrev pub swap_history : {R F D : Type 0} → FileSwap R F D → List Accessed
 swap_history s = s.noted.history.items
+
+-- which blocks it was asked for
+abbrev pub swap_asked : {R F D : Type 0} → FileSwap R F D → List ℕ
+swap_asked s = asked_for s.asked.items
 
 abbrev pub swap_faults : {R F D : Type 0} → FileSwap R F D → ℕ
 swap_faults s = s.faults

@@ -5,6 +5,7 @@ ghost use Rattle.o2_outer.specs.Streams.{swap_history, swap_faults};
 ghost use Rattle.o2_outer.specs.Ahead.{has_block, IsAsBefore};
 ghost use Rattle.o2_outer.specs.Placed.{Flushes, Fills, IsGiven};
 
+use crate::history::History;
 use crate::noted::Noted;
 use crate::placed::{seek_to, write_at};
 use crate::window::Window;
@@ -19,8 +20,8 @@ const NAME: &str = "os2run.swp";
 const BLOCKS: u32 = 65_536;
 
 /// Blocks in the file `os2run.swp`, which is made, empty, at the first use. A block holds what was written last, and it tells whether
-/// each read gave that. Each error of the system is a fault, and so is a read of a block that wasn't written or whose last write failed,
-/// and of one of which the file has less than the whole: so a read gives other bytes only where the file changes by itself.
+/// each read gave that. Each error of the system is a fault, and so is a read of a block of which the file has less than the whole: so a
+/// read gives other bytes only where the file changes by itself. A block that wasn't written or whose last write failed isn't read.
 ///
 /// Up to 16 blocks that follow one another are written together, once one is read or another one is written, and read together. Those that
 /// wait are kept until the file has them: where it can't take them, that is a fault of the call that finds it, and they aren't lost.
@@ -30,6 +31,8 @@ pub struct FileSwap<R: rt::Files + Drop> {
     file: Option<R::File>,
     window: Window,
     noted: Noted,
+    // which blocks were asked for, for proofs
+    asked: History<u32, u32, u32>,
     faults: u64,
 }
 
@@ -44,6 +47,7 @@ impl<R: rt::Files + Drop> FileSwap<R> {
             file: None,
             window: Window::new(),
             noted: Noted::new(),
+            asked: History::new(),
             faults: 0,
         }
     }
@@ -52,6 +56,7 @@ impl<R: rt::Files + Drop> FileSwap<R> {
     fn open(&mut self) -> bool
         ensures faults { self.new.faults ≡ self.old.faults }
         ensures noted { self.new.noted ≡ self.old.noted }
+        ensures asked { self.new.asked ≡ self.old.asked }
         ensures window { self.new.window ≡ self.old.window }
     {
         if self.file.is_some() {
@@ -75,6 +80,7 @@ impl<R: rt::Files + Drop> FileSwap<R> {
         ensures rose { Rose self.old.faults self.new.faults }
         ensures counts { self.new.faults ≡ risen self.old.faults }
         ensures noted { self.new.noted ≡ self.old.noted }
+        ensures asked { self.new.asked ≡ self.old.asked }
     {
         self.faults = self.faults.saturating_add(1);
         Dev::Failed
@@ -84,6 +90,7 @@ impl<R: rt::Files + Drop> FileSwap<R> {
     fn flush(&mut self) -> bool
         ensures faults { self.new.faults ≡ self.old.faults }
         ensures noted { self.new.noted ≡ self.old.noted }
+        ensures asked { self.new.asked ≡ self.old.asked }
         ensures window { IsAsBefore self.old.window self.new.window }
         ensures done { result ≡ true → self.new.window.waits ≡ false }
         ensures waits { result ≡ false → self.new.window ≡ self.old.window }
@@ -109,6 +116,7 @@ impl<R: rt::Files + Drop> FileSwap<R> {
         requires done { self.old.window.waits ≡ false }
         ensures faults { self.new.faults ≡ self.old.faults }
         ensures noted { self.new.noted ≡ self.old.noted }
+        ensures asked { self.new.asked ≡ self.old.asked }
         ensures read { result ≡ true
             → Fills R.File.stream_position R.File.remaining self.old.file self.new.file i self.new.window }
     {
@@ -133,6 +141,7 @@ impl<R: rt::Files + Drop> FileSwap<R> {
             → IsGiven R.File.stream_position R.File.remaining self.old.window self.new.file i into.new }
         ensures faults { self.new.faults ≡ self.old.faults }
         ensures noted { self.new.noted ≡ self.old.noted }
+        ensures asked { self.new.asked ≡ self.old.asked }
     {
         if !self.flush() {
             return false;
@@ -151,6 +160,7 @@ impl<R: rt::Files + Drop> FileSwap<R> {
         ensures waits { result ≡ true → has_block self.new.window i from.now }
         ensures faults { self.new.faults ≡ self.old.faults }
         ensures noted { self.new.noted ≡ self.old.noted }
+        ensures asked { self.new.asked ≡ self.old.asked }
     {
         if self.window.add(i, from) {
             return true;
@@ -164,10 +174,10 @@ impl<R: rt::Files + Drop> FileSwap<R> {
 }
 
 impl<R: rt::Files + Drop> SwapDevice for FileSwap<R> {
-    ghost use Rattle.std.specs.Prelude.{◌≢◌, ◌<◌, ℕ, List, IsTrue, false};
+    ghost use Rattle.std.specs.Prelude.{◌≢◌, ◌<◌, ◌++◌, ◌∷◌, [], ℕ, List, IsTrue, true, false, replicate};
     ghost use Rattle.o2_outer.specs.Answers.{HasCause, CountsDev};
     ghost use Rattle.o2_outer.specs.Accesses.{all_agree, content, is_known, with_read, with_write};
-    ghost use Rattle.o2_outer.specs.Streams.{swap_history, swap_faults, swap_window, swap_file};
+    ghost use Rattle.o2_outer.specs.Streams.{swap_asked, swap_history, swap_faults, swap_window, swap_file};
     ghost use Rattle.o2_outer.specs.Ahead.{has_block};
     ghost use Rattle.o2_outer.specs.Sums.{block_sum};
 
@@ -177,14 +187,27 @@ impl<R: rt::Files + Drop> SwapDevice for FileSwap<R> {
 
     ghost block = { λ s. content (swap_history s) };
 
+    ghost known = { λ s. is_known (swap_history s) };
+
+    ghost asked = { λ s. swap_asked s };
+
     ghost faults = { λ s. swap_faults s };
 
     fn count(&self) -> u32 {
         BLOCKS
     }
 
-    fn read(&mut self, i: u32, into: &mut [u8; 512]) -> Dev
+    fn knows(&self, i: u32) -> bool
         requires { i < 65536 }
+        ensures known { result ≡ is_known (swap_history self.now) i }
+        ensures zeros { result ≡ false → content (swap_history self.now) i ≡ replicate 512 0 }
+    {
+        self.noted.knows(i)
+    }
+
+    fn read(&mut self, i: u32, into: &mut [u8; 512]) -> Dev
+        requires block { i < 65536 }
+        requires known { is_known (swap_history self.old) i ≡ true }
         ensures notes { swap_history self.new ≡ with_read result i into.new (swap_history self.old) }
         ensures earlier { IsTrue (all_agree (swap_history self.new))
             → IsTrue (all_agree (swap_history self.old)) }
@@ -193,7 +216,8 @@ impl<R: rt::Files + Drop> SwapDevice for FileSwap<R> {
             → into.new ≡ content (swap_history self.old) i }
         ensures cause { HasCause (swap_faults self.old) (swap_faults self.new) result }
         ensures counts { CountsDev (swap_faults self.old) (swap_faults self.new) result }
-        ensures unknown { is_known (swap_history self.old) i ≡ false → result ≡ Dev.Failed }
+        ensures asked { swap_asked self.new ≡ swap_asked self.old ++ i ∷ [] }
+        ensures knows { (b : ℕ) → is_known (swap_history self.new) b ≡ is_known (swap_history self.old) b }
         // What comes has the sum of what was written last; where it has another one, that is a fault, and is counted.
         ensures summed { result ≡ Dev.Done
             → block_sum into.new ≡ block_sum (content (swap_history self.old) i) }
@@ -205,11 +229,8 @@ impl<R: rt::Files + Drop> SwapDevice for FileSwap<R> {
         ensures from { result ≡ Dev.Done → IsGiven R.File.stream_position R.File.remaining
             (swap_window self.old) (swap_file self.new) i into.new }
     {
-        if !(self.noted.knows(i)
-            && self.open()
-            && self.reads(i, into)
-            && self.noted.agrees(i, into))
-        {
+        self.asked = self.asked.and(&i, &i, &i);
+        if !(self.open() && self.reads(i, into) && self.noted.agrees(i, into)) {
             return self.fault();
         }
         self.noted.read(i, into);
@@ -225,6 +246,10 @@ impl<R: rt::Files + Drop> SwapDevice for FileSwap<R> {
         ensures written { result ≡ Dev.Done → content (swap_history self.new) i ≡ from.now }
         ensures cause { HasCause (swap_faults self.old) (swap_faults self.new) result }
         ensures counts { CountsDev (swap_faults self.old) (swap_faults self.new) result }
+        ensures known { result ≡ Dev.Done → is_known (swap_history self.new) i ≡ true }
+        ensures knows { (b : ℕ) → b ≢ i
+            → is_known (swap_history self.new) b ≡ is_known (swap_history self.old) b }
+        ensures unasked { swap_asked self.new ≡ swap_asked self.old }
         ensures waits { result ≡ Dev.Done → has_block (swap_window self.new) i from.now }
     {
         if !(self.open() && self.writes(i, from)) {

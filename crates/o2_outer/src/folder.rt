@@ -112,7 +112,11 @@ impl<R: rt::Files + Drop> FolderFiles<R> {
 }
 
 impl<R: rt::Files + Drop> Files for FolderFiles<R> {
+    ghost use Rattle.o2_outer.specs.Asked.{asked_for};
+
     ghost may_hold = { λ f files. AreOver files (folder_fetches f) };
+
+    ghost asked = { λ f. asked_for (folder_fetches f) };
 
     ghost faults = { λ f. folder_faults f };
 

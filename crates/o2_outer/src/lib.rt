@@ -41,4 +41,4 @@ pub use source::{Source, Took};
 pub use stdin::{StdinSource, StreamSource};
 pub use streams::{StderrSink, StdoutSink, StreamSink};
 pub use sure::{SureSource, SureSwap};
-pub use swap::{Dev, SwapDevice};
+pub use swap::{Dev, SwapDevice, read_block};

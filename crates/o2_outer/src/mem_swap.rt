@@ -2,6 +2,7 @@
 ghost use Rattle.std.specs.Prelude.{◌≡◌, ◌≤◌, ◌<◌, ◌||◌, Option, Some, None, length, true, IfOk, replicate};
 
 use crate::blocks::zero_blocks;
+use crate::history::History;
 use crate::plan::fails_now;
 use crate::{Dev, SwapDevice};
 use o2_base::NoMemory;
@@ -18,6 +19,8 @@ pub struct MemSwap {
     tries: u64,
     writes: u64,
     faults: u64,
+    // which blocks were asked for, for proofs
+    asked: History<u32, u32, u32>,
     ghost few: { length blocks.items ≤ 65536 },
 }
 
@@ -44,6 +47,7 @@ impl MemSwap {
             tries: 0,
             writes: 0,
             faults: 0,
+            asked: History::new(),
         })
     }
 
@@ -76,10 +80,11 @@ impl MemSwap {
 }
 
 impl SwapDevice for MemSwap {
+    ghost use Rattle.std.specs.Prelude.{◌++◌, ◌∷◌, []};
     ghost use Rattle.o2_outer.specs.Answers.{HasCause, CountsDev};
     ghost use Rattle.o2_outer.specs.Contents.{block_of};
     ghost use Rattle.o2_outer.specs.Planned.{next_call};
-    ghost use Rattle.o2_outer.specs.Devices.{mem_blocks, mem_calls, mem_calls_to_fail, mem_failing_write, mem_write_tries, mem_writes, mem_swap_faults, read_fails, write_fails, device_answer, blocks_written, writes_after};
+    ghost use Rattle.o2_outer.specs.Devices.{mem_asked, mem_blocks, mem_calls, mem_calls_to_fail, mem_failing_write, mem_write_tries, mem_writes, mem_swap_faults, read_fails, write_fails, device_answer, blocks_written, writes_after};
 
     ghost blocks = { λ s. length (mem_blocks s) };
 
@@ -87,16 +92,26 @@ impl SwapDevice for MemSwap {
 
     ghost block = { λ s. block_of (mem_blocks s) };
 
+    ghost known = { λ _ _. true };
+
+    ghost asked = { λ s. mem_asked s };
+
     ghost faults = { λ s. mem_swap_faults s };
 
     fn count(&self) -> u32 {
         self.blocks.len() as u32
     }
 
+    // each holds zeros at first
+    fn knows(&self, _i: u32) -> bool {
+        true
+    }
+
     fn read(&mut self, i: u32, into: &mut [u8; 512]) -> Dev
         requires { i < length (mem_blocks self.old) }
         ensures same { mem_blocks self.new ≡ mem_blocks self.old }
         ensures read { result ≡ Dev.Done → into.new ≡ block_of (mem_blocks self.old) i }
+        ensures asked { mem_asked self.new ≡ mem_asked self.old ++ i ∷ [] }
         ensures cause { HasCause (mem_swap_faults self.old) (mem_swap_faults self.new) result }
         ensures counts { CountsDev (mem_swap_faults self.old) (mem_swap_faults self.new) result }
 
@@ -107,6 +122,7 @@ impl SwapDevice for MemSwap {
         ensures failing { mem_failing_write self.new ≡ mem_failing_write self.old }
         ensures writes { mem_writes self.new ≡ mem_writes self.old }
     {
+        self.asked = self.asked.and(&i, &i, &i);
         if fails_now(&mut self.calls, &self.fails) {
             self.faults = self.faults.saturating_add(1);
             return Dev::Failed;
@@ -118,6 +134,7 @@ impl SwapDevice for MemSwap {
     fn write(&mut self, i: u32, from: &[u8; 512]) -> Dev
         requires { i < length (mem_blocks self.old) }
         ensures written { mem_blocks self.new ≡ blocks_written self.old i from.now }
+        ensures unasked { mem_asked self.new ≡ mem_asked self.old }
         ensures cause { HasCause (mem_swap_faults self.old) (mem_swap_faults self.new) result }
         ensures counts { CountsDev (mem_swap_faults self.old) (mem_swap_faults self.new) result }
 

@@ -3,6 +3,7 @@ ghost use Rattle.std.specs.Prelude.{◌≡◌, ◌≤◌, ◌<◌, Some, drop, t
 ghost use Rattle.o2_outer.specs.Contents.{block_of};
 
 use crate::blocks::zero_blocks;
+use crate::history::History;
 use crate::{Dev, Source, SwapDevice, Took};
 use o2_base::{Bytes, NoMemory};
 use std::alloc::Global;
@@ -48,6 +49,8 @@ impl Source for SureSource {
 #[derive(Drop)]
 pub struct SureSwap {
     blocks: Vec<[u8; 512]>,
+    // which blocks were asked for, for proofs
+    asked: History<u32, u32, u32>,
     ghost few: { length blocks.items ≤ 65536 },
 }
 
@@ -61,16 +64,25 @@ impl SureSwap {
         ensures zeros { IfOk result (λ s. swap_contents s ≡ replicate blocks (replicate 512 0)) }
     {
         let blocks = zero_blocks(alloc, blocks)?;
-        Ok(SureSwap { blocks })
+        Ok(SureSwap {
+            blocks,
+            asked: History::new(),
+        })
     }
 }
 
 impl SwapDevice for SureSwap {
+    ghost use Rattle.o2_outer.specs.Asked.{asked_for};
+
     ghost blocks = { λ s. length s.blocks.items };
 
     ghost told = { λ _. true };
 
     ghost block = { λ s. block_of s.blocks.items };
+
+    ghost known = { λ _ _. true };
+
+    ghost asked = { λ s. asked_for s.asked.items };
 
     ghost faults = { λ _. 0 };
 
@@ -78,7 +90,13 @@ impl SwapDevice for SureSwap {
         self.blocks.len() as u32
     }
 
+    // each holds zeros at first
+    fn knows(&self, _i: u32) -> bool {
+        true
+    }
+
     fn read(&mut self, i: u32, into: &mut [u8; 512]) -> Dev {
+        self.asked = self.asked.and(&i, &i, &i);
         *into = self.blocks[i as usize];
         Dev::Done
     }

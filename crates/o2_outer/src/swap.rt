@@ -1,5 +1,5 @@
 // A device of blocks.
-ghost use Rattle.std.specs.Prelude.{◌≡◌, ◌≢◌, ◌<◌, Bool, IsTrue, List, ℕ};
+ghost use Rattle.std.specs.Prelude.{◌≡◌, ◌≢◌, ◌<◌, ◌++◌, ◌∷◌, [], Bool, IsTrue, List, ℕ, filter, replicate, true, false};
 ghost use Rattle.o2_outer.specs.Answers.{HasCause};
 
 /// What a call of a device came to.
@@ -22,6 +22,12 @@ pub trait SwapDevice {
     /// What a block holds, which is what was written last.
     ghost block: { Self → ℕ → List ℕ };
 
+    /// Which blocks may be read: a write that is done makes a block known, and one that fails may leave it unknown.
+    ghost known: { Self → ℕ → Bool };
+
+    /// Which blocks it was asked for so far, in their order, whether it gave them or failed.
+    ghost asked: { Self → List ℕ };
+
     /// How often it has failed. One at 2^64 - 1 counts as risen at each call.
     ghost faults: { Self → ℕ };
 
@@ -29,13 +35,22 @@ pub trait SwapDevice {
     fn count(&self) -> u32
         ensures { result ≡ blocks self.now };
 
-    /// Reads a block. A fault changes none.
+    /// Whether a block may be read. One that may not holds zeros.
+    fn knows(&self, i: u32) -> bool
+        requires { i < blocks self.now }
+        ensures known { result ≡ known self.now i }
+        ensures zeros { result ≡ false → block self.now i ≡ replicate 512 0 };
+
+    /// Reads a block that was written. A fault changes none.
     fn read(&mut self, i: u32, into: &mut [u8; 512]) -> Dev
-        requires { i < blocks self.old }
+        requires block { i < blocks self.old }
+        requires known { known self.old i ≡ true }
         ensures blocks { blocks self.new ≡ blocks self.old }
         ensures earlier { IsTrue (told self.new) → IsTrue (told self.old) }
         ensures same { IsTrue (told self.new) → (b : ℕ) → block self.new b ≡ block self.old b }
         ensures read { IsTrue (told self.new) → result ≡ Dev.Done → into.new ≡ block self.old i }
+        ensures knows { (b : ℕ) → known self.new b ≡ known self.old b }
+        ensures asked { asked self.new ≡ asked self.old ++ i ∷ [] }
         ensures cause { HasCause (faults self.old) (faults self.new) result };
 
     /// Writes a block. A fault leaves this block unknown, and no other.
@@ -45,5 +60,26 @@ pub trait SwapDevice {
         ensures earlier { IsTrue (told self.new) → IsTrue (told self.old) }
         ensures others { IsTrue (told self.new) → (b : ℕ) → b ≢ i → block self.new b ≡ block self.old b }
         ensures written { IsTrue (told self.new) → result ≡ Dev.Done → block self.new i ≡ from.now }
+        ensures known { result ≡ Dev.Done → known self.new i ≡ true }
+        ensures knows { (b : ℕ) → b ≢ i → known self.new b ≡ known self.old b }
+        ensures unasked { asked self.new ≡ asked self.old }
         ensures cause { HasCause (faults self.old) (faults self.new) result };
+}
+
+/// Gives what a block holds: as the device reads it, and zeros where it isn't known.
+pub fn read_block<S: SwapDevice>(i: u32, into: &mut [u8; 512], swap: &mut S) -> Dev
+    requires { i < S.blocks swap.old }
+    ensures blocks { S.blocks swap.new ≡ S.blocks swap.old }
+    ensures earlier { IsTrue (S.told swap.new) → IsTrue (S.told swap.old) }
+    ensures same { IsTrue (S.told swap.new) → (b : ℕ) → S.block swap.new b ≡ S.block swap.old b }
+    ensures read { IsTrue (S.told swap.new) → result ≡ Dev.Done → into.new ≡ S.block swap.old i }
+    ensures knows { (b : ℕ) → S.known swap.new b ≡ S.known swap.old b }
+    ensures asked { S.asked swap.new ≡ S.asked swap.old ++ filter (S.known swap.old) (i ∷ []) }
+    ensures cause { HasCause (S.faults swap.old) (S.faults swap.new) result }
+{
+    if swap.knows(i) {
+        return swap.read(i, into);
+    }
+    *into = [0; 512];
+    Dev::Done
 }

@@ -1,22 +1,18 @@
 -- How a run goes on, and how it ends.
-use Rattle.std.proofs.Common.{◌≡◌, ℕ, suc, ◌+◌, ◌<◌, ◌≤◌, Bool, true, false, not, List, [], ◌++◌, Option, None, ◌⊎◌, inl, inr, Ok, Err, ap, sym, ◌∙◌, refl, arith, ◌||◌}
+use Rattle.std.proofs.Common.{◌≡◌, ℕ, suc, ◌+◌, ◌<◌, ◌≤◌, Bool, true, false, not, List, [], ◌++◌, Option, None, ◌⊎◌, inl, inr, Ok, Err, ap, ◌∙◌, refl, arith, ◌||◌}
 use Rattle.std.proofs.Common.{◌==◌, if◌then◌else◌, below_more, append-nil, append_assoc, length, subst}
-use Rattle.o2_outer.specs.Texts.{Rose, Gains, Continues}
+use Rattle.o2_outer.specs.Texts.{Rose, Gains}
 use Rattle.o2_world.specs.World.{World, Setting}
 use Rattle.o2_world.specs.Text.{lines_text}
 use Rattle.o2_world.specs.Run.{IsBelowLast, any_lives, after, is_over, last_line, report, HasPartTexts, InOpening, Between, AtLastLine}
 use Rattle.o2_run.specs.Room.{Fits}
-use Rattle.o2_run.specs.Turn.{StepsOn, StepsInPart, IsClosed, IsClosedInPart, IsStopped, Turns, LineIs}
-use Rattle.o2_run.specs.Faults.{fault_turn}
-use Rattle.o2_run.specs.Stops.{stop_line}
+use Rattle.o2_run.specs.Turn.{StepsOn, StepsInPart, IsClosed, IsClosedInPart, Turns}
 use Rattle.o2_run.specs.Pieces.{counts, Hands, HandsUpTo, FailedHands, TurnHands, step_puts, pieces}
 use Rattle.o2_run.specs.Ended.{FitsBelow, HasReached, HasWholeRun, HasStoppedTexts, HasPartRun, HandsPart, HasTexts}
-use Rattle.o2_run.specs.declared.fault.Fault.TheVariants.{Sink, Stopped}
-use Rattle.o2_run.specs.declared.fault.Fault.{Fault}
+use Rattle.o2_run.specs.declared.fault.Fault.TheVariants.{Sink}
 use Rattle.o2_run.specs.declared.steps.Turn.{Turn}
 use Rattle.o2_run.specs.declared.steps.Turn.TheVariants.{Ran, AllEnded, BudgetSpent}
 use Rattle.o2_run.specs.declared.steps.Stop.{Stop}
-use Rattle.o2_run.specs.declared.steps.Stop.TheVariants.{Input, NoRoom, SwapFull, SwapFault}
 
 neither : (a b : Bool) (x y : List ℕ) → (a || b) ≡ false → (if a then x else (if b then y else [])) ≡ []
 neither true b x y e = cc
@@ -111,7 +107,7 @@ module _ (before_it now : World → Type 0) (swaps : Bool) (blocks : ℕ) (s : S
   stopped_anyhow h (inl part) puts since =
       (record { texts = part_texts h part; room = λ j below. fits_to h.steps h.room part.room j (omega (arith, below)); input = part.input; hands = hands_up_to u v x y z o ahead (length (after s w h.steps).lines) (pieces s w h.steps) _ _ _ h.hands (puts.in_step part.runs) }, part.stands)
   stopped_anyhow h (inr end) puts since =
-      (record { texts = last_texts h end; room = h.room; input = inl end.input; hands = hands_last u v x y z o ahead (length (after s w h.steps).lines) (pieces s w h.steps) _ h.hands (puts.at_end end.over) }, inl end.stands)
+      (record { texts = last_texts h end; room = h.room; input = end.input; hands = hands_last u v x y z o ahead (length (after s w h.steps).lines) (pieces s w h.steps) _ h.hands (puts.at_end end.over) }, inl end.stands)
 
   pub closed_by : (t : Turn) → (t ≡ AllEnded) ⊎ (t ≡ BudgetSpent)
       → (count : ℕ) (h : HasReached before_it swaps s w i c d r q (counts u v y z ahead)) (put : Bool) (since : Type 0)

@@ -1,6 +1,6 @@
 -- How a run ends, with the fate of its stop line.
-use Rattle.std.proofs.Common.{◌≡◌, ℕ, ◌+◌, ◌<◌, Bool, true, false, List, ◌++◌, Option, ◌⊎◌, inl, inr, Err, ◌∙◌, refl, arith, below_more, length, subst}
-use Rattle.o2_outer.specs.Texts.{Gains, Continues}
+use Rattle.std.proofs.Common.{◌≡◌, ℕ, ◌+◌, ◌<◌, ◌≤◌, Bool, true, false, List, ◌++◌, Option, ◌⊎◌, inl, inr, Err, ◌∙◌, refl, arith, below_more, length, subst}
+use Rattle.o2_outer.specs.Texts.{Gains, Continues, Rose}
 use Rattle.o2_world.specs.World.{World, Setting}
 use Rattle.o2_world.specs.Text.{lines_text}
 use Rattle.o2_world.specs.Run.{after, is_over}
@@ -16,7 +16,20 @@ use Rattle.o2_run.specs.declared.steps.Turn.{Turn}
 use Rattle.o2_run.specs.declared.steps.Stop.{Stop}
 use Rattle.o2_run.specs.declared.steps.Stop.TheVariants.{Input, NoRoom, SwapFull, SwapFault}
 use Rattle.o2_run.proofs.Reached.{hands_last, stopped_anyhow}
-use Rattle.o2_run.specs.Lined.{HasLined, IsPut}
+use Rattle.o2_run.specs.Lined.{HasLined, IsPut, LastPutFailed}
+
+-- the put behind this state was the last one, and it failed
+pub failed_last : {S : Type 0} (puts faults : S → ℕ) (old before new : S) → faults old ≤ faults before → puts new ≡ puts before + 1 → Rose (faults before) (faults new)
+    → LastPutFailed puts faults old new
+failed_last puts faults old before new later one rose = record { before = before; later = later; one_put = one; rose = rose }
+
+-- seen from an earlier time
+pub failed_since : {S : Type 0} (puts faults : S → ℕ) (start old new : S) → faults start ≤ faults old → LastPutFailed puts faults old new → LastPutFailed puts faults start new
+failed_since puts faults start old new earlier f = record { before = f.before; later = omega (arith, earlier, f.later); one_put = f.one_put; rose = f.rose }
+
+-- a stop line is one put
+one_line : (v x z o n : ℕ) → Hands (counts v x z o n) 0 (n + 1) → o ≡ z + 1
+one_line v x z o n h = omega (arith, h.to_report)
 
 either : (put : Bool) (A B : Type 0) → IsPut put A B → A ⊎ B
 either true A B h = inl h
@@ -50,17 +63,17 @@ module _ (before_it now : World → Type 0) (swaps : Bool) (blocks : ℕ) (s : S
     put_told h.steps why put since stop.whole failed h.to_report,
   )
 
-  lined : (f : Fault) (count : ℕ) → count ≡ blocks → (h : HasReached before_it swaps s w i c d r q (counts u v y z ahead)) (put : Bool) (fault since : Type 0) → (fault → since) → LineIs put fault (fault_turn f)
+  lined : (f : Fault) (count : ℕ) → count ≡ blocks → (h : HasReached before_it swaps s w i c d r q (counts u v y z ahead)) (put : Bool) (fault since : Type 0) → (o ≡ z + 1 → fault → since) → LineIs put fault (fault_turn f)
       → Turns now swaps count s (after s w h.steps) put l d e q p (fault_turn f) → TurnHands s (after s w h.steps) (counts v x z o (length (after s w h.steps).lines)) (fault_turn f)
       → HasLined now swaps blocks s w l c e r p since (counts u x y o ahead) put (Err f)
   lined Sink count same h put fault since later line turns puts = stopped_anyhow before_it now swaps blocks s w i l c d e r q p u v x y z o ahead h turns puts since
-  lined (Stopped Input) count same h put fault since later line turns puts = lined_stop count same h Input put since (λ e. later (line e)) turns puts
-  lined (Stopped NoRoom) count same h put fault since later line turns puts = lined_stop count same h NoRoom put since (λ e. later (line e)) turns puts
-  lined (Stopped SwapFull) count same h put fault since later line turns puts = lined_stop count same h SwapFull put since (λ e. later (line e)) turns puts
-  lined (Stopped SwapFault) count same h put fault since later line turns puts = lined_stop count same h SwapFault put since (λ e. later (line e)) turns puts
+  lined (Stopped Input) count same h put fault since later line turns puts = lined_stop count same h Input put since (λ e. later (one_line v x z o (length (after s w h.steps).lines) puts) (line e)) turns puts
+  lined (Stopped NoRoom) count same h put fault since later line turns puts = lined_stop count same h NoRoom put since (λ e. later (one_line v x z o (length (after s w h.steps).lines) puts) (line e)) turns puts
+  lined (Stopped SwapFull) count same h put fault since later line turns puts = lined_stop count same h SwapFull put since (λ e. later (one_line v x z o (length (after s w h.steps).lines) puts) (line e)) turns puts
+  lined (Stopped SwapFault) count same h put fault since later line turns puts = lined_stop count same h SwapFault put since (λ e. later (one_line v x z o (length (after s w h.steps).lines) puts) (line e)) turns puts
 
   -- by the answer of the last turn
-  pub lined_by : (t : Turn) (f : Fault) → t ≡ fault_turn f → (count : ℕ) → count ≡ blocks → (h : HasReached before_it swaps s w i c d r q (counts u v y z ahead)) (put : Bool) (fault since : Type 0) → (fault → since) → LineIs put fault t
+  pub lined_by : (t : Turn) (f : Fault) → t ≡ fault_turn f → (count : ℕ) → count ≡ blocks → (h : HasReached before_it swaps s w i c d r q (counts u v y z ahead)) (put : Bool) (fault since : Type 0) → (o ≡ z + 1 → fault → since) → LineIs put fault t
       → Turns now swaps count s (after s w h.steps) put l d e q p t → TurnHands s (after s w h.steps) (counts v x z o (length (after s w h.steps).lines)) t → HasLined now swaps blocks s w l c e r p since (counts u x y o ahead) put (Err f)
   lined_by t f is count same h put fault since later line turns puts =
       lined f count same h put fault since later (subst (λ (a : Turn). LineIs put fault a) is line)

@@ -23,8 +23,8 @@ FitsBelow swaps s w k = (j : ℕ) → j < k → Fits swaps s (after s w j)
 abbrev pub AllFitRun : Setting → World → Type 0
 AllFitRun s w = (k : ℕ) → IsBelowLast s w k → AllFits s (after s w k)
 
--- a run that stops before its step k, for which it had the first cause: the lines so far, and the stop line, or where the
--- report failed a front of it; each line is one put
+-- a run that stops before its step k, for which it had the first cause: the lines so far, and the stop line, or where its put
+-- failed, by the word `fault`, a front of it; each line is one put
 pub record HasStoppedTexts (swaps : Bool) (blocks : ℕ) (s : Setting) (w : World) (why : Stop)
     (left console_old console_new report_old report_new : Option (List ℕ)) (fault : Type 0) (puts : Counts) : Type 0 where
   pub steps : ℕ
@@ -52,6 +52,13 @@ part_at (InOpening to_console to_report) = 0
 part_at (Between k below to_console to_report in_order) = k
 part_at (AtLastLine k last to_console to_report) = k
 
+-- the step at which the world has the input that is left: none is taken in the opening, and a step takes its input before it puts
+-- anything
+abbrev pub left_at : {s : Setting} {w : World} {c d r q : Option (List ℕ)} → HasPartTexts s w c d r q → ℕ
+left_at (InOpening to_console to_report) = 0
+left_at (Between k below to_console to_report in_order) = suc k
+left_at (AtLastLine k last to_console to_report) = k
+
 -- the puts of a front, the one that failed among them
 abbrev pub HandsPart : (s : Setting) (w : World) {c d r q : Option (List ℕ)} → Counts → HasPartTexts s w c d r q → Type 0
 HandsPart s w n (InOpening to_console to_report) = HandsUpTo n 0 0 (length w.lines)
@@ -65,11 +72,11 @@ FitsPart swaps s w (InOpening to_console to_report) = Unit {0}
 FitsPart swaps s w (Between k below to_console to_report in_order) = FitsBelow swaps s w (suc k)
 FitsPart swaps s w (AtLastLine k last to_console to_report) = FitsBelow swaps s w k
 
--- texts of a front, and an input that has left what the world before that step has left, or the one after it
+-- texts of a front, and the input that is left behind the step in which a sink failed; in the opening that is all of it
 pub record HasPartRun (swaps : Bool) (s : Setting) (w : World) (left console_old console_new report_old report_new : Option (List ℕ)) (puts : Counts) : Type 0 where
   pub texts : HasPartTexts s w console_old console_new report_old report_new
   pub room : FitsPart swaps s w texts
-  pub input : (left ≡ Some (after s w (part_at texts)).input) ⊎ (left ≡ Some (after s w (suc (part_at texts))).input)
+  pub input : left ≡ Some (after s w (left_at texts)).input
   pub hands : HandsPart s w puts texts
 
 -- at each end the machine stands for the world of the same k as the texts

@@ -1,6 +1,6 @@
 -- What a run leaves that tells whether its stop line was put.
-use Rattle.std.specs.Prelude.{ℕ, ◌++◌, Bool, true, false, List, Option, Result, Ok, Err}
-use Rattle.o2_outer.specs.Texts.{Gains}
+use Rattle.std.specs.Prelude.{◌≡◌, ◌≤◌, ℕ, ◌+◌, ◌++◌, Bool, true, false, List, Option, Result, Ok, Err}
+use Rattle.o2_outer.specs.Texts.{Gains, Rose}
 use Rattle.o2_world.specs.World.{World, Setting}
 use Rattle.o2_world.specs.Text.{lines_text}
 use Rattle.o2_world.specs.Run.{after}
@@ -9,6 +9,13 @@ use Rattle.o2_run.specs.Pieces.{Counts}
 use Rattle.o2_run.specs.Stops.{stop_line}
 use Rattle.o2_run.specs.declared.fault.Fault.{Fault}
 use Rattle.o2_run.specs.declared.fault.Fault.TheVariants.{Sink, Stopped}
+
+-- The last put of a sink failed: one put earlier the sink was as `before`, and its count of faults rose from there on.
+pub record LastPutFailed {S : Type 0} (puts faults : S → ℕ) (old new : S) : Type 0 where
+  pub before : S
+  pub later : faults old ≤ faults before
+  pub one_put : puts new ≡ puts before + 1
+  pub rose : Rose (faults before) (faults new)
 
 -- the one where it was put whole, and else the other
 abbrev pub IsPut : (put : Bool) → Type 0 → Type 0 → Type 0

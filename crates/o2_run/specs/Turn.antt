@@ -23,12 +23,13 @@ pub record StepsOn (stands_now : World → Type 0) (swaps : Bool) (s : Setting) 
   pub to_report : Continues report_old report_new (lines_text w.lines) (lines_text (step s w).lines)
 
 -- a sink that failed in a step shows a front of it: the report nothing of its lines, or the console its whole piece; the
--- machine stands for the world before the step, or for the one after it, and the input has left what the one or the other has
+-- machine stands for the world before the step, or for the one after it. A step takes its input before it puts anything, so what is
+-- left is that of the world after it
 pub record StepsInPart (stands_now : World → Type 0) (swaps : Bool) (s : Setting) (w : World)
     (left : Option (List ℕ)) (console_old console_new report_old report_new : Option (List ℕ)) : Type 0 where
   pub runs : is_over w ≡ false
   pub room : Fits swaps s w
-  pub input : (left ≡ Some w.input) ⊎ (left ≡ Some (step s w).input)
+  pub input : left ≡ Some (step s w).input
   pub stands : stands_now w ⊎ stands_now (step s w)
   pub to_console : ContinuesBetween console_old console_new (console w) (console (step s w))
   pub to_report : ContinuesBetween report_old report_new (lines_text w.lines) (lines_text (step s w).lines)

@@ -7,7 +7,7 @@ ghost use Rattle.o2_world.specs.Text.{lines_text};
 ghost use Rattle.o2_world.specs.Run.{console as console_text};
 ghost use Rattle.o2_run.specs.Faults.{Caused};
 ghost use Rattle.o2_run.specs.Pieces.{counts};
-ghost use Rattle.o2_run.specs.Lined.{HasLined};
+ghost use Rattle.o2_run.specs.Lined.{HasLined, LastPutFailed};
 ghost use Rattle.o2_run.specs.Ended.{EndsAs, StopsForInput, AllFitRun};
 
 use crate::{Fault, Steps};
@@ -15,7 +15,8 @@ use o2_outer::{Sink, Source, SwapDevice};
 
 /// Runs a machine that stands for a world to its end, by the steps that are done at once, and by a call of `turn` where the next one
 /// isn't: it is Ok where the last line is put. What both sinks took before the opening is `c` and `r`. At each end, and at each fault, the machine stands for the
-/// world whose texts they have taken, and tells of a stop whether its line was put whole. Each line is one put, and so is the console's piece of each step that has one.
+/// world whose texts they have taken, and tells of a stop whether its line was put whole. Where it wasn't, that put, which is the
+/// report's last, failed. Each line is one put, and so is the console's piece of each step that has one.
 #[tactic(auto, using(o2_outer::proofs::Inputs::goes_same))]
 pub fn run<M: Steps, I: Source, C: Sink, R: Sink, S: SwapDevice>(
     machine: &mut M,
@@ -33,7 +34,7 @@ pub fn run<M: Steps, I: Source, C: Sink, R: Sink, S: SwapDevice>(
         → Gains c (C.taken console.old) (console_text w) → Gains r (R.taken report.old) (lines_text w.lines)
         → HasLined (M.stands machine.new (S.blocks swap.new) (S.block swap.new) s) M.swaps (S.blocks swap.old) s w
         (left_as text (I.left input.new) (I.past input.new))
-        c (C.taken console.new) r (R.taken report.new) (Rose (R.faults report.old) (R.faults report.new))
+        c (C.taken console.new) r (R.taken report.new) (LastPutFailed R.puts R.faults report.old report.new)
         (counts (C.puts console.old) (C.puts console.new) (R.puts report.old) (R.puts report.new) (length w.lines)) (M.line_put machine.new) result }
     ensures goes_on { GoesOn (I.past input.old) (I.past input.new) }
     ensures stopped { EndsAs (M.stopped machine.new) result }

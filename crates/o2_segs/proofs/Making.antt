@@ -15,12 +15,12 @@ use Rattle.o2_regions.specs.declared.answer.Roomed.{Roomed}
 use Rattle.o2_regions.specs.declared.answer.Roomed.TheVariants as roomed
 use Rattle.o2_regions.specs.declared.held.Region.{Region}
 use Rattle.o2_regions.specs.declared.held.Region.TheVariants.{Private, Shared}
-use Rattle.o2_regions.specs.Maps.{Maps, IsProcess, end_of, first_of, held_at, is_of, is_taken, region_of}
+use Rattle.o2_regions.specs.Maps.{Maps, end_of, first_of, held_at, is_of, is_taken, region_of}
 use Rattle.o2_service.specs.Told.{OnlyTables}
 use Rattle.o2_store.specs.declared.brought.Brought.{Brought}
 use Rattle.o2_store.specs.declared.brought.Brought.TheVariants as brought
 use Rattle.o2_store.specs.Needs.{has_age, named_in}
-use Rattle.o2_store.specs.Shelf.{Shelf, Adds, aged, entry, entry_of, entry_or, place_of}
+use Rattle.o2_store.specs.Shelf.{Shelf, Adds, IsShelf, aged, entry, entry_of, entry_or, place_of}
 use Rattle.o2_store.proofs.Tables.{slot-set_other, slot-set_same}
 use Rattle.o2_swapmap.specs.Piles.{all_of}
 use Rattle.o2_changes.specs.Holding.{IsUnheld}
@@ -43,9 +43,6 @@ use Rattle.o2_segs.specs.Made.{IsStop, allocation_to, made_by_call, new_entry, r
 use Rattle.o2_segs.proofs.Rows.{own_index}
 
 -- The index.
-
-pub process_same : (m n : Maps) (pid : ℕ) → OnlyTables m n → IsProcess m pid → IsProcess n pid
-process_same m n pid o is = subst (λ (x : Maps). IsProcess x pid) (sym o.rest) is
 
 pub region_run : (m : Maps) (pid i flags : ℕ) → IsRun (is_taken m (region_for pid flags)) (first_of (region_for pid flags)) (end_of (region_for pid flags)) 1 i → region_of pid i ≡ region_for pid flags
 region_run m pid i flags r = go (flags % 4 == 0) r
@@ -156,6 +153,10 @@ added_map s t id e a = ap (λ (x : Shelf). all_of x.swap) a.shelf
 
 pub added_place : (s t : Shelf) (id : SegId) (e : Entry) (k : ℕ) → Adds s t id e → IsSome (place_of s k) → IsSome (place_of t k)
 added_place s t id e k a here = subst (λ (o : Option (ℕ × ℕ)). IsSome o) (sym (ap (λ (x : Shelf). place_of x k) a.shelf)) here
+
+-- a new segment is out of memory
+pub added_out : (s t : Shelf) (id : SegId) (e : Entry) → IsShelf s → Adds s t id e → place_of t id.key ≡ None
+added_out s t id e h a = ap (λ (x : Shelf). place_of x id.key) a.shelf ∙ (h.each id.key a.within).dead a.vacant
 
 pub new_adds : (s t : Shelf) (id : SegId) (size flags n : ℕ) (b : Bool) → n ≡ full_size size → b ≡ (has_bit flags 0 || has_bit flags 1)
     → Adds s t id (record { age = s.made; size = n; kept = 0; image = None; attr = record { flags = flags; lock = 0; clean = false; shared = b } }) → Adds s t id (new_entry s.made (full_size size) flags)

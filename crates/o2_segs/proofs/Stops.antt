@@ -1,5 +1,6 @@
 -- Calls that stop, by what the store answered.
-use Rattle.std.proofs.Common.{◌≡◌, ℕ, List, [], Option, Some, None, refl, sym, ap, ◌∙◌, subst}
+use Rattle.std.proofs.Common.{◌≡◌, ◌<◌, ℕ, List, [], Option, Some, None, arith, refl, sym, ap, ◌∙◌, subst}
+use Rattle.o2_regions.specs.declared.answer.Answer.{Answer}
 use Rattle.o2_regions.specs.declared.answer.Roomed.{Roomed}
 use Rattle.o2_regions.specs.declared.answer.Roomed.TheVariants as roomed
 use Rattle.o2_store.specs.declared.brought.Brought.{Brought}
@@ -63,3 +64,22 @@ was_here brought.Stale e never = absurd (never refl)
 -- there is no error
 pub error_none : {r : Ruling} {value : ℕ} {changes : List Change} → r ≡ grants value changes → r.error ≡ 0
 error_none e = ap (λ (x : Ruling). x.error) e
+
+-- where room lacks it stops for room
+pub room_stops : (a : Brought) (r : Roomed) → Some r ≡ stop_of a → a ≡ brought.NoRoom → r ≡ roomed.NoRoom
+room_stops brought.Here r e f = absurd (cc)
+room_stops brought.NoRoom r e f = sym (is_stop r roomed.NoRoom e)
+room_stops brought.SwapFull r e f = absurd (cc)
+room_stops brought.SwapFault r e f = absurd (cc)
+room_stops brought.Stale r e f = absurd (cc)
+
+-- where it doesn't stop no room lacks
+pub room_never : (a : Brought) → ◌≡◌ {A = Option Roomed} None (stop_of a) → a ≡ brought.NoRoom → ⊥
+room_never a none e = (let z : ◌≡◌ {A = Option Roomed} None (Some roomed.NoRoom) = none ∙ ap stop_of e in cc)
+
+-- what is refused isn't unrefused
+pub denied : (a : Answer) (error : ℕ) → a ≡ record { error = error; value = 0 } → 0 < error → a.error ≡ 0 → ⊥
+denied a error e some none = (let same : a.error ≡ error = ap (λ (x : Answer). x.error) e in omega (arith, same, some, none))
+
+pub stop_is : (r s : Roomed) → Some r ≡ Some s → r ≡ s
+stop_is r s e = sym (is_stop r s e)

@@ -46,6 +46,10 @@ pub record IsWithNew (s : Shelf) (size flags : ℕ) (says : Shelf → SegId → 
   pub adds : Adds s store id (new_entry s.made size flags)
   pub holds : says store id
 
+-- of each store with one segment more this is so, whichever number it has
+pub record AreWithNew (s : Shelf) (size flags : ℕ) (says : Shelf → SegId → Type 0) : Type 0 where
+  pub each : (t : Shelf) (id : SegId) → Adds s t id (new_entry s.made size flags) → says t id
+
 -- a call isn't done
 abbrev pub IsStop : Roomed → Type 0
 IsStop (Done a) = ⊥

@@ -25,9 +25,9 @@ ghost use Rattle.o2_world.specs.Holders.{process_at};
 ghost use Rattle.o2_world.specs.Map.{get};
 ghost use Rattle.o2_world.specs.Rulings.{allocation, full_size};
 ghost use Rattle.o2_world.specs.World.{Process, World};
-ghost use Rattle.o2_segs.specs.Answers.{AnswersRoomed, changes_roomed};
+ghost use Rattle.o2_segs.specs.Answers.{AnswersRoomed, IsUnrefused, changes_roomed};
 ghost use Rattle.o2_segs.specs.Limits.{IsUndone, KeepsEntries, KeepsLimits, KeepsOthers, made_in};
-ghost use Rattle.o2_segs.specs.Made.{IsStop, IsWithNew, MatchesLocked, MatchesWithout, allocation_to, made_by_call, region_for, IsShortWithNew};
+ghost use Rattle.o2_segs.specs.Made.{AreWithNew, IsStop, IsWithNew, MatchesLocked, MatchesWithout, allocation_to, made_by_call, region_for, IsShortWithNew};
 ghost use Rattle.o2_store.specs.Idle.{Idles, IsIdle, NoneTaken};
 
 use crate::asking::{INVALID_PARAMETER, NOT_ENOUGH_MEMORY, done, refusal, stop_of};
@@ -110,6 +110,9 @@ pub fn alloc_seg<S: SwapDevice>(
 
     ensures no_room { result ≡ Roomed.NoRoom → IsWithNew store.old (full_size size) flags
         (λ t id. t.places.size < all_wanted t id.key keep.now) }
+    // Room lacks exactly where a segment that isn't refused is to be locked and doesn't fit.
+    ensures always_no_room { IsUnrefused result → has_bit flags 2 ≡ true → AreWithNew store.old (full_size size) flags
+        (λ t id. t.places.size < all_wanted t id.key keep.now) → result ≡ Roomed.NoRoom }
     ensures loads { result ≡ Roomed.SwapFull → (all_of store.old.swap < swap_load store.old)
         × IsWithNew store.old (full_size size) flags (λ t id. t.places.size < live_load t) }
     // Where nothing is in swap blocks, the device isn't touched, unless the segment is to be locked and all that lives with it
@@ -175,11 +178,14 @@ fn allocate<S: SwapDevice>(
 
     ensures no_room { result ≡ Roomed.NoRoom → IsWithNew store.old (full_size size) flags
         (λ t id. t.places.size < all_wanted t id.key keep.now) }
+    ensures always_no_room { IsUnrefused result → has_bit flags 2 ≡ true → AreWithNew store.old (full_size size) flags
+        (λ t id. t.places.size < all_wanted t id.key keep.now) → result ≡ Roomed.NoRoom }
     ensures loads { result ≡ Roomed.SwapFull → (all_of store.old.swap < swap_load store.old)
         × IsWithNew store.old (full_size size) flags (λ t id. t.places.size < live_load t) }
     ensures idle { NoneTaken store.old.swap → IsIdle store.new swap.old swap.new
         ⊎ IsShortWithNew store.old (full_size size) flags result }
 {
+    store.law();
     match make(store, regions, full_size(size), flags, is_shared(flags)) {
         Some(id) => {
             if !is_locked(flags) {
@@ -229,6 +235,8 @@ fn lock_new<S: SwapDevice>(
 
     ensures no_room { (r : Roomed) → result ≡ Some r → r ≡ Roomed.NoRoom
         → store.old.places.size < all_wanted store.old id.key keep.now }
+    ensures always_no_room { place_of store.old id.key ≡ None
+        → store.old.places.size < all_wanted store.old id.key keep.now → result ≡ Some Roomed.NoRoom }
     ensures loads { (r : Roomed) → result ≡ Some r → r ≡ Roomed.SwapFull
         → (all_of store.old.swap < swap_load_but store.old id.key)
         × (store.old.places.size < live_load store.old) }

@@ -103,6 +103,12 @@ pub fn realloc_seg<S: SwapDevice>(
     ensures no_room { result ≡ Roomed.NoRoom → IfSome (if is_local sel then held_at regions.old pid (sel / 8) else None)
         (λ h. (stays store.old h.id.key keep.now ≡ true)
         × (store.old.places.size < all_wanted_at store.old h.id.key keep.now (full_size size))) }
+    // Room lacks exactly where the size isn't refused, and one in memory that is to stay there doesn't fit with it.
+    ensures present { result ≡ Roomed.NoRoom → IfSome (if is_local sel then held_at regions.old pid (sel / 8) else None)
+        (λ h. IsSome (place_of store.old h.id.key)) }
+    ensures always_no_room { IsUnrefused result → IfSome (if is_local sel then held_at regions.old pid (sel / 8) else None)
+        (λ h. IsSome (place_of store.old h.id.key) → stays store.old h.id.key keep.now ≡ true
+        → store.old.places.size < all_wanted_at store.old h.id.key keep.now (full_size size) → result ≡ Roomed.NoRoom) }
     ensures all_load { result ≡ Roomed.SwapFull → IfSome (if is_local sel then held_at regions.old pid (sel / 8) else None)
         (λ h. store.old.places.size < live_load_at store.old h.id.key (full_size size)) }
     ensures load { result ≡ Roomed.SwapFull → all_of store.old.swap < swap_load store.old }

@@ -1,6 +1,6 @@
 -- What is needed, as the store is asked for it.
 use Rattle.std.proofs.Common.{◌≡◌, ◌≢◌, ℕ, zero, suc, ◌+◌, ◌<◌, ◌≤◌, inl, inr, List, [], ◌∷◌, length, map, Option, Some, None, is_some, IsSome, Bool, true, false, ltb}
-use Rattle.std.proofs.Common.{eqb, ◌||◌, ◌&&◌, if◌then◌else◌, max, refl, sym, ap, ◌∙◌, subst, arith, option_map, unwrap_or}
+use Rattle.std.proofs.Common.{eqb, ◌||◌, ◌&&◌, if◌then◌else◌, max, refl, sym, ap, ◌∙◌, subst, arith, unwrap_or}
 use Rattle.std.specs.List.{slice_get}
 use Rattle.std.proofs.lemmas.Bool.{cases_eq, cases_lt}
 use Rattle.std.proofs.lemmas.Bool.Decides.{nat_tests}
@@ -143,11 +143,6 @@ based_placed None p e = absurd (let f : false ≡ true = e in cc)
 based_placed (Some x) None e = absurd (let f : false ≡ true = e in cc)
 based_placed (Some x) (Some r) e = refl
 
--- a map of something isn't nothing
-pub mapped_some : {A B : Type 0} (f : A → B) (o : Option A) → IsSome o → ◌≡◌ {A = Option B} None (option_map f o) → ⊥
-mapped_some f None i e = (let g : false ≡ true = i in cc)
-mapped_some f (Some x) i e = cc
-
 -- what the store keeps of the named ones, of what is needed
 pub stays_by : (s t : Shelf) (need : List (SegId × ℕ)) (keep : List SegId) → keep ≡ segments_of need → AreLive s need
     → ((k : ℕ) → named_in s.entries keep k ≡ true → IsSome (place_of s k) → IsSome (place_of t k)) → Stays need s t
@@ -196,8 +191,3 @@ within_list (q ∷ qs) (suc i) p e = (let l = within_list qs i p e in omega (ari
 
 pub all_live : (s : Shelf) (need : List (SegId × ℕ)) (n : ℕ) → length need ≤ n → LiveTo s need n → AreLive s need
 all_live s need n l t = record { each = λ i p e. t.each i p (let w = within_list need i p e in omega (arith, w, l)) e }
-
--- a segment that has a size is live
-pub sized_live : (o : Option Entry) (r : Option ℕ) → r ≡ option_map (λ (e : Entry). e.size) o → is_some r ≡ true → IsSome o
-sized_live None r e t = (let f : is_some r ≡ false = ap is_some e in absurd (let g : true ≡ false = sym t ∙ f in cc))
-sized_live (Some x) r e t = refl

@@ -1,13 +1,11 @@
 -- What a list of needed segments takes, segment by segment.
-use Rattle.std.proofs.Common.{◌≡◌, ◌≢◌, ℕ, ◌+◌, ◌<◌, ◌≤◌, List, [], ◌∷◌, ◌++◌, length, take, get_or, Option, Some, None, IsSome, Bool, true, false, ltb, eqb, ◌||◌, if◌then◌else◌, max, refl, ap, ◌∙◌, arith}
+use Rattle.std.proofs.Common.{◌≡◌, ◌≢◌, ℕ, ◌+◌, ◌<◌, ◌≤◌, List, [], ◌∷◌, ◌++◌, length, take, get_or, Option, Some, None, IsSome, Bool, false, ltb, eqb, ◌||◌, if◌then◌else◌, max, refl, ap, ◌∙◌, arith}
 use Rattle.std.proofs.lemmas.Bool.Decides.{nat_tests}
 use Rattle.std.proofs.lemmas.List.{take_more}
-use Rattle.std.proofs.Math.Nat.{max-zero}
 use Rattle.o2_entries.specs.declared.Entry.{Entry}
 use Rattle.o2_entries.specs.Tables.{slot_at}
 use Rattle.o2_place.specs.declared.seg_id.SegId.{SegId}
-use Rattle.o2_place.proofs.Sums.{over-same}
-use Rattle.o2_store.specs.Shelf.{Shelf, aged, entry, entry_of, rounded, all_locked, locked_need}
+use Rattle.o2_store.specs.Shelf.{Shelf, aged, entry, entry_of, rounded}
 use Rattle.o2_store.proofs.Tables.{over-change, le_over, within_at}
 use Rattle.o2_service.specs.Needs.{needs, size_in, needed, all_needed}
 
@@ -32,14 +30,6 @@ needed_other : (s : Shelf) (need : List (SegId × ℕ)) (p : SegId × ℕ) (k : 
 needed_other s need p k n =
     ap (λ (b : Bool). if ltb 0 (entry s k).attr.lock || b then rounded (max (entry s k).size (size_in (need ++ p ∷ []) k)) else 0) (needs_other need p k n)
     ∙ ap (λ (x : ℕ). if ltb 0 (entry s k).attr.lock || needs need k then rounded (max (entry s k).size x) else 0) (size_other need p k n)
-
--- without needed segments the locked ones alone count
-pub needed_none : (s : Shelf) → all_needed s [] ≡ all_locked s.entries
-needed_none s = over-same (needed s []) (locked_need s.entries) (length s.entries) (λ k l. go (ltb 0 (entry s k).attr.lock) (entry s k).size)
-  where
-    go : (b : Bool) (n : ℕ) → (if b || false then rounded (max n 0) else 0) ≡ (if b then rounded n else 0)
-    go true n = ap rounded (max-zero n)
-    go false n = refl
 
 -- one more needed segment
 pub needed_more : (s : Shelf) (need : List (SegId × ℕ)) (k : ℕ) (d : SegId × ℕ) → k < length need → (get_or need k d).0.key < length s.entries

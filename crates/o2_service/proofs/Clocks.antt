@@ -144,10 +144,6 @@ bits_one m pid i = record {
   ];
 }
 
--- the marks behind a telling
-mark_set : (marks : List Mark) (key k : ℕ) → key < length marks → mark_of (set marks key used_mark) key ≡ used_mark
-mark_set marks key k l = get_or-set_same marks key used_mark no_mark l
-
 -- an index at which a segment is held, of which the clock is told
 pub learns_one : (s t : Shelf) (m : Maps) (pid i : ℕ) (h : Held) → IsShelf s → IsSome (entry_of s h.id) → held_at m pid i ≡ Some h → is_used_at m pid i ≡ true → TouchesOne s t h.id → Learns s t m (with_unused m pid i)
 learns_one s t m pid i h shelf live here was w = record {
@@ -313,10 +309,6 @@ unused_none s m t u = record { none = λ p. at (p / 8192) (p % 8192) (held_at m 
     at pid i None e w = ap (λ (d : Descriptor). is_accessed d.access) (subst (λ (o : Option Held). IsSettledAt s o (descriptor_at m pid i)) e w)
     at pid i (Some h) e w = u.each pid i h e
 
--- a bit that was clear stays so
-pub stays_unused : (m n : Maps) (pid k : ℕ) → ClearsBits m n → AreUnusedBelow m pid k → AreUnusedBelow n pid k
-stays_unused m n pid k c u = record { each = λ i h l e. c.fewer pid i (u.each i h l (sym (bits_held m n c pid i) ∙ e)) }
-
 pub stays_unused_to : (m n : Maps) (k : ℕ) → ClearsBits m n → AreUnusedTo m k → AreUnusedTo n k
 stays_unused_to m n k c u = record { each = λ pid i h l e. c.fewer pid i (u.each pid i h l (sym (bits_held m n c pid i) ∙ e)) }
 
@@ -376,28 +368,6 @@ to_next m n k c u below = record { each = at }
 -- nobody is process 0, or behind the last
 pub to_first : (m : Maps) → AreKept m → AreUnusedTo m 1
 to_first m k = record { each = λ pid i h l e. (let p = k.process pid i h e in absurd (omega arith)) }
-
-pub to_last : (m : Maps) (n : ℕ) → AreKept m → m.processes < n → AreUnusedTo m n → AreUnused m
-to_last m n k l u = record { each = λ pid i h e. u.each pid i h (let p = inside pid i h e in omega arith) e }
-  where
-    inside : (pid i : ℕ) (h : Held) → held_at m pid i ≡ Some h → pid ≤ m.processes
-    inside pid i h e = elim (cases_lt m.processes pid) [
-      | inr in_it ↦ in_it
-      | inl past ↦ absurd (none_some (sym (beyond past) ∙ e))
-    ]
-      where
-        none_some : ◌≡◌ {A = Option Held} None (Some h) → ⊥
-        none_some z = cc
-
-        beyond : m.processes < pid → held_at m pid i ≡ None
-        beyond q = go (nat_lt i 8192)
-          where
-            at : get_or m.held (pid * 8192 + i) None ≡ None
-            at = get_or_past m.held (pid * 8192 + i) None (let z = k.held_long in omega (arith, z, q))
-
-            go : (b : Bool) → cond b (get_or m.held (pid * 8192 + i) None) None ≡ None
-            go true = at
-            go false = refl
 
 -- A telling keeps accessed bits.
 

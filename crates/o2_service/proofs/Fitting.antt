@@ -15,9 +15,6 @@ pub record FitAt (s : Shelf) (need : List (SegId × ℕ)) (n : ℕ) : Type 0 whe
   pub place : (i : ℕ) (p : SegId × ℕ) → i < n → slice_get need i ≡ Some p → IsSome (place_of s p.0.key)
   pub size : (i : ℕ) (p : SegId × ℕ) → i < n → slice_get need i ≡ Some p → p.1 ≤ (entry s p.0.key).size
 
-pub fit_none : (s : Shelf) (need : List (SegId × ℕ)) → FitAt s need 0
-fit_none s need = record { place = λ i p l e. absurd (omega (arith, l)); size = λ i p l e. absurd (omega (arith, l)) }
-
 pub fit_more : (s : Shelf) (need : List (SegId × ℕ)) (n : ℕ) (p : SegId × ℕ) → FitAt s need n → slice_get need n ≡ Some p → IsSome (place_of s p.0.key) → p.1 ≤ (entry s p.0.key).size → FitAt s need (n + 1)
 fit_more s need n p f at place size = record {
   place = λ i q l e. elim (cases_lt i n) [
@@ -35,9 +32,6 @@ fit_more s need n p f at place size = record {
         let k : i ≡ n = omega (arith, a, b) in
         let z : ◌≡◌ {A = Option (SegId × ℕ)} (Some p) (Some q) = sym at ∙ subst (λ (x : ℕ). slice_get need x ≡ Some q) k e in
         ap (λ (o : Option (SegId × ℕ)). unwrap_or o p) z
-
-pub fit_present : (s : Shelf) (need : List (SegId × ℕ)) (n : ℕ) → FitAt s need n → ArePresent s need n
-fit_present s need n f = record { each = f.place }
 
 -- all of a list, and all behind its first
 record FitAll (s : Shelf) (need : List (SegId × ℕ)) : Type 0 where

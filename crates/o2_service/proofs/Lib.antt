@@ -1,5 +1,6 @@
 pub mod Amounts
 pub mod Among
+pub mod Departed
 pub mod Fitting
 pub mod Placing
 pub mod Clocks

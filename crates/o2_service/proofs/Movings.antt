@@ -1,11 +1,13 @@
 -- Segments leave, slide and come in one after the other, and descriptors follow.
 use Rattle.std.proofs.Common.{◌≡◌, ◌≢◌, inl, inr, ℕ, ◌+◌, ◌<◌, ◌≤◌, List, length, drop, Option, Some, None, is_some, IsSome, IfSome, Bool, true, false, eqb, if◌then◌else◌, refl, sym, ap, ◌∙◌, subst, arith}
+use Rattle.std.specs.Option.{IfNone}
 use Rattle.std.proofs.lemmas.Bool.{cases_eq, false≢true}
 use Rattle.o2_entries.specs.declared.Entry.{Entry}
 use Rattle.o2_entries.specs.Tables.{slot_at}
 use Rattle.o2_place.specs.declared.seg_id.SegId.{SegId}
 use Rattle.o2_place.specs.Layout.{Layout, IsFree, IsLowestFree, find_in, len_of, over, used}
 use Rattle.o2_regions.specs.Maps.{Maps}
+use Rattle.o2_store.specs.Gaps.{IsGap}
 use Rattle.o2_segbus.specs.Settled.{IsSettled}
 use Rattle.o2_store.specs.Leaving.{MayLeave}
 use Rattle.o2_store.specs.Loads.{live_load, swap_load}
@@ -101,6 +103,11 @@ pub gap_there : (p : Layout) (len : ℕ) (o : Option ℕ) → IsLowestFree p len
 gap_there p len None l e = absurd (false≢true e)
 gap_there p len (Some at) l e = (at, l.0)
 
+-- where none is found, there is none
+pub gap_never : (s : Shelf) (count : ℕ) (o : Option ℕ) → is_some o ≡ false → IfNone o ((start : ℕ) → IsGap s start count → ⊥) → (start : ℕ) → IsGap s start count → ⊥
+gap_never s count None e f start g = f start g
+gap_never s count (Some at) e f start g = false≢true (sym e)
+
 presence_by : (s t : Shelf) (k : ℕ) → IsMoved s t → (o : Option (ℕ × ℕ)) → place_of s k ≡ o → is_some (place_of t k) ≡ is_some o
 presence_by s t k q None e = ap is_some (q.none k e)
 presence_by s t k q (Some r) e = ap is_some (q.some k r.0 r.1 e).1
@@ -122,6 +129,12 @@ pub base_none : (o : Option Entry) (p : Option (ℕ × ℕ)) → IsSome o → is
 base_none None p i e = absurd (false≢true i)
 base_none (Some x) None i e = refl
 base_none (Some x) (Some r) i e = absurd (false≢true (sym e))
+
+-- one out of memory has no address
+pub none_based : (o : Option Entry) (p : Option (ℕ × ℕ)) → p ≡ None → is_some (base_of o p) ≡ true → ⊥
+none_based None p n e = false≢true e
+none_based (Some x) None n e = false≢true e
+none_based (Some x) (Some r) n e = false≢true (sym (ap is_some n))
 
 -- a segment that may leave isn't stale
 pub stale_never : (s t : Shelf) (out : SegId) → t ≡ record s { turns = t.turns; keys = t.keys } → IsSome (entry_of s out) → entry_of t out ≡ None → ⊥

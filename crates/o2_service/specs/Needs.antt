@@ -1,5 +1,5 @@
 -- What a step needs in memory together: segments, each with the size that it gets in the step, or 0.
-use Rattle.std.specs.Prelude.{◌≡◌, ℕ, ◌<◌, List, [], ◌∷◌, length, map, Some, None, IsSome, Bool, true, false, ◌||◌, ◌==◌, if◌then◌else◌, nat_lt, slice_get, max}
+use Rattle.std.specs.Prelude.{◌≡◌, ℕ, ◌<◌, List, [], ◌∷◌, length, map, ◌≤◌, Some, None, IsSome, Bool, true, false, ◌||◌, ◌==◌, if◌then◌else◌, nat_lt, slice_get, max}
 use Rattle.o2_place.specs.declared.seg_id.SegId.{SegId}
 use Rattle.o2_place.specs.Layout.{over}
 use Rattle.o2_store.specs.Shelf.{Shelf, entry, entry_of, place_of, rounded}
@@ -33,6 +33,11 @@ pub record AreLive (s : Shelf) (need : List (SegId × ℕ)) : Type 0 where
 -- the first n are in memory
 pub record ArePresent (s : Shelf) (need : List (SegId × ℕ)) (n : ℕ) : Type 0 where
   pub each : (i : ℕ) (p : SegId × ℕ) → i < n → slice_get need i ≡ Some p → IsSome (place_of s p.0.key)
+
+-- each is in memory, and gets no larger size
+pub record AreServed (s : Shelf) (need : List (SegId × ℕ)) : Type 0 where
+  pub place : (i : ℕ) (p : SegId × ℕ) → slice_get need i ≡ Some p → IsSome (place_of s p.0.key)
+  pub size : (i : ℕ) (p : SegId × ℕ) → slice_get need i ≡ Some p → p.1 ≤ (entry s p.0.key).size
 
 -- what is needed and in memory stays there
 pub record Stays (need : List (SegId × ℕ)) (old new : Shelf) : Type 0 where

@@ -1,7 +1,7 @@
 // What a step's segments take of the memory together.
-ghost use Rattle.std.specs.Prelude.{◌≡◌, ◌+◌, ◌<◌, ◌≤◌, ◌^◌, length, IsSome, max, nat_lt, true};
-ghost use Rattle.o2_store.specs.Shelf.{entry, entry_of};
-ghost use Rattle.o2_service.specs.Needs.{AreLive, ArePresent, all_needed, needed, needs, size_in};
+ghost use Rattle.std.specs.Prelude.{◌≡◌, ◌+◌, ◌<◌, ◌≤◌, ◌^◌, length, IsSome, max, nat_lt, true, false};
+ghost use Rattle.o2_store.specs.Shelf.{entry, entry_of, place_of};
+ghost use Rattle.o2_service.specs.Needs.{AreLive, ArePresent, AreServed, all_needed, needed, needs, size_in};
 
 use o2_place::SegId;
 use o2_store::Store;
@@ -28,16 +28,30 @@ pub(crate) fn size_of(store: &Store, id: SegId) -> u32
     }
 }
 
+// Whether a live segment is in memory and has so many bytes at least.
+fn is_served(store: &Store, id: SegId, size: u32) -> bool
+    requires { IsSome (entry_of store.now id) }
+    ensures here { result ≡ true → IsSome (place_of store.now id.key) }
+    ensures enough { result ≡ true → size ≤ (entry store.now id.key).size }
+    ensures missing { result ≡ false → IsSome (place_of store.now id.key) → (entry store.now id.key).size < size }
+{
+    if !store.base(id).is_some() {
+        return false;
+    }
+    size_of(store, id) >= size
+}
+
 /// Whether all that is needed is in memory and none gets a larger size.
 pub(crate) fn are_here(need: &[(SegId, u32)], store: &Store) -> bool
     requires { AreLive store.now need.now }
     ensures here { result ≡ true → ArePresent store.now need.now (length need.now) }
     ensures fits { result ≡ true → all_needed store.now need.now ≤ store.now.places.size }
+    ensures missing { result ≡ false → AreServed store.now need.now → ⊥ }
 {
     store.law();
     for k in 0..need.len() {
         let (id, size) = need[k];
-        if store.base(id).is_none() || size_of(store, id) < size {
+        if !is_served(store, id, size) {
             return false;
         }
     }

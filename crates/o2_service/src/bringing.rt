@@ -3,12 +3,14 @@ ghost use Rattle.std.specs.Prelude.{◌≡◌, ◌≢◌, ℕ, List, Bool, ◌+�
 ghost use Rattle.o2_entries.specs.Tables.{slot_at};
 ghost use Rattle.o2_place.specs.Layout.{IsFree, used};
 ghost use Rattle.o2_segbus.specs.Settled.{IsSettled};
-ghost use Rattle.o2_swapmap.specs.Piles.{all_of};
+ghost use Rattle.o2_swapmap.specs.Piles.{all_of, blocks_of};
+ghost use Rattle.o2_store.specs.Asked.{AsksFor};
 ghost use Rattle.o2_store.specs.Frames.{IsBacked, KeepsDevice};
 ghost use Rattle.o2_store.specs.Loads.{live_load, swap_load};
 ghost use Rattle.o2_store.specs.Needs.{all_wanted, named_in};
 ghost use Rattle.o2_store.specs.Pictures.{picture, HasPicture};
-ghost use Rattle.o2_store.specs.Leaving.{IsStuck};
+ghost use Rattle.o2_store.specs.Gaps.{IsGap, SlideFor};
+ghost use Rattle.o2_store.specs.Leaving.{IsStuck, LeaveFor, lacking};
 ghost use Rattle.o2_store.specs.Shelf.{AreClean, HasAll, IsFull, KeepsAll, Pictures, SameTables, entry, entry_of, place_of, rounded};
 ghost use Rattle.o2_service.specs.Told.{Follows, IsHeldWell};
 ghost use Rattle.o2_store.specs.Idle.{Idles, IsIdle, NoneTaken};
@@ -47,6 +49,10 @@ fn make_way<S: SwapDevice>(
     ensures kept { (k : ℕ) → named_in store.old.entries keep.now k ≡ true
         → place_of store.new k ≡ place_of store.old k }
     ensures none { (k : ℕ) → place_of store.old k ≡ None → place_of store.new k ≡ None }
+    ensures still { (k : ℕ) → IsSome (place_of store.new k) → place_of store.new k ≡ place_of store.old k }
+    ensures leave { LeaveFor store.old store.new (rounded (entry store.old id.key).size) }
+    ensures unasked { S.asked swap.new ≡ S.asked swap.old }
+    ensures pile { blocks_of store.new.swap id.key ≡ blocks_of store.old.swap id.key }
     ensures entry { slot_at store.new.entries id.key ≡ slot_at store.old.entries id.key }
 
     ensures fewer { result ≡ Brought.Here
@@ -92,6 +98,10 @@ fn make_room<S: SwapDevice>(
     ensures kept { (k : ℕ) → named_in store.old.entries keep.now k ≡ true
         → place_of store.new k ≡ place_of store.old k }
     ensures none { (k : ℕ) → place_of store.old k ≡ None → place_of store.new k ≡ None }
+    ensures still { (k : ℕ) → IsSome (place_of store.new k) → place_of store.new k ≡ place_of store.old k }
+    ensures leave { LeaveFor store.old store.new (rounded (entry store.old id.key).size) }
+    ensures unasked { S.asked swap.new ≡ S.asked swap.old }
+    ensures pile { blocks_of store.new.swap id.key ≡ blocks_of store.old.swap id.key }
     ensures entry { slot_at store.new.entries id.key ≡ slot_at store.old.entries id.key }
 
     ensures room { result ≡ Brought.Here
@@ -126,6 +136,10 @@ fn make_gap(id: SegId, store: &mut Store, regions: &mut Regions)
     ensures blocks { store.new.swap ≡ store.old.swap }
     ensures follows { Follows regions.old store.new regions.new }
     ensures presence { (k : ℕ) → is_some (place_of store.new k) ≡ is_some (place_of store.old k) }
+    ensures load { used store.new.places.ranges ≡ used store.old.places.ranges }
+    // Where a gap is long enough, nothing slides.
+    ensures alone { (start : ℕ) → IsGap store.old start (rounded (entry store.old id.key).size)
+        → (store.new ≡ store.old) × (regions.new ≡ regions.old) }
 
     ensures room { used store.new.places.ranges + rounded (entry store.new id.key).size ≤ store.new.places.size }
     ensures gap { (at : ℕ) × IsFree store.new.places.size store.new.places.ranges at (rounded (entry store.new id.key).size) }
@@ -163,6 +177,9 @@ fn fill_gap<S: SwapDevice>(
     ensures map { all_of store.new.swap ≡ all_of store.old.swap }
     ensures follows { Follows regions.old store.new regions.new }
     ensures alone { (k : ℕ) → k ≢ id.key → place_of store.new k ≡ place_of store.old k }
+    ensures takes { used store.new.places.ranges + lacking store.new id.key
+        ≡ used store.old.places.ranges + rounded (entry store.old id.key).size }
+    ensures asks { AsksFor (S.known swap.new) (blocks_of store.old.swap id.key) (S.asked swap.old) (S.asked swap.new) (result ≡ Brought.Here) }
 
     ensures here { result ≡ Brought.Here → IsSome (place_of store.new id.key) }
     ensures never { (result ≡ Brought.NoRoom → ⊥) × (result ≡ Brought.Stale → ⊥) × (result ≡ Brought.SwapFull → ⊥) }
@@ -201,6 +218,9 @@ fn bring_in<S: SwapDevice>(
     ensures kept { (k : ℕ) → named_in store.old.entries keep.now k ≡ true
         → IsSome (place_of store.old k) → IsSome (place_of store.new k) }
     ensures none { (k : ℕ) → k ≢ id.key → place_of store.old k ≡ None → place_of store.new k ≡ None }
+    ensures leave { LeaveFor store.old store.new (lacking store.new id.key) }
+    ensures slide { SlideFor store.old store.new id.key (rounded (entry store.old id.key).size) }
+    ensures asks { AsksFor (S.known swap.new) (blocks_of store.old.swap id.key) (S.asked swap.old) (S.asked swap.new) (result ≡ Brought.Here) }
 
     ensures here { result ≡ Brought.Here → IsSome (place_of store.new id.key) }
     ensures loads { result ≡ Brought.SwapFull
@@ -223,7 +243,8 @@ fn bring_in<S: SwapDevice>(
 /// Brings a live segment into memory together with those of `keep` and the locked ones, and says in the descriptors of each
 /// segment that leaves or slides for it, and in its own, where it is then. Whatever the answer, each segment keeps its bytes, its
 /// size and its attributes, those of `keep` and locked ones that are in memory stay there, and all descriptors agree with the
-/// store. The work is that of the segments that move, and of going over those who hold them.
+/// store. No more segments leave than must, and none slides where a gap is long enough. The work is that of the segments that
+/// move, and of going over those who hold them.
 pub fn bring<S: SwapDevice>(
     id: SegId,
     keep: &[SegId],
@@ -248,10 +269,19 @@ pub fn bring<S: SwapDevice>(
     ensures kept { (k : ℕ) → named_in store.old.entries keep.now k ≡ true
         → IsSome (place_of store.old k) → IsSome (place_of store.new k) }
     ensures none { (k : ℕ) → k ≢ id.key → place_of store.old k ≡ None → place_of store.new k ≡ None }
+    // None leaves that could have stayed, and none slides where a gap is long enough once those that leave have left.
+    ensures leave { LeaveFor store.old store.new (lacking store.new id.key) }
+    ensures slide { SlideFor store.old store.new id.key (rounded (entry store.old id.key).size) }
+    // Each of its blocks that the device knows is read once, and no other.
+    ensures asks { place_of store.old id.key ≡ None
+        → AsksFor (S.known swap.new) (blocks_of store.old.swap id.key) (S.asked swap.old) (S.asked swap.new) (result ≡ Brought.Here) }
 
     ensures here { result ≡ Brought.Here → IsSome (place_of store.new id.key) }
     ensures no_room { result ≡ Brought.NoRoom
         → store.old.places.size < all_wanted store.old id.key keep.now }
+    ensures absent { result ≡ Brought.NoRoom → place_of store.old id.key ≡ None }
+    ensures always_no_room { place_of store.old id.key ≡ None
+        → store.old.places.size < all_wanted store.old id.key keep.now → result ≡ Brought.NoRoom }
     ensures loads { result ≡ Brought.SwapFull
         → (all_of store.old.swap < swap_load store.old)
         × (store.old.places.size < live_load store.old) }

@@ -3,10 +3,11 @@ ghost use Rattle.std.specs.Prelude.{◌≡◌, ℕ, ◌<◌, ◌≤◌, length, 
 ghost use Rattle.o2_segbus.specs.Settled.{IsSettled};
 ghost use Rattle.o2_swapmap.specs.Piles.{all_of};
 ghost use Rattle.o2_store.specs.Frames.{IsBacked, KeepsDevice};
+ghost use Rattle.o2_store.specs.Leaving.{LeaveFor};
 ghost use Rattle.o2_store.specs.Loads.{live_load, swap_load};
 ghost use Rattle.o2_store.specs.Pictures.{picture, HasPicture};
 ghost use Rattle.o2_store.specs.Shelf.{AreClean, HasAll, KeepsAll, entry, entry_of, place_of};
-ghost use Rattle.o2_service.specs.Needs.{AreLive, ArePresent, OnlyNeededComes, Stays, all_needed, needs};
+ghost use Rattle.o2_service.specs.Needs.{AreLive, ArePresent, AreServed, OnlyNeededComes, Stays, all_needed, needs};
 ghost use Rattle.o2_service.specs.Learned.{AreUnused};
 ghost use Rattle.o2_service.specs.Told.{Follows, IsHeldWell, OnlyTables};
 ghost use Rattle.o2_store.specs.Idle.{Idles};
@@ -35,8 +36,8 @@ pub enum Served {
 }
 
 /// Brings what is needed into memory together, and says in all descriptors where segments are now. What is needed or locked
-/// and was in memory stays there, and nothing else comes in; so each that is needed comes in once at most. Whatever the
-/// answer, each segment keeps its bytes, its size and its attributes, and all descriptors agree with the store.
+/// and was in memory stays there, and nothing else comes in; so each that is needed comes in once at most. No more leaves than
+/// must. Whatever the answer, each segment keeps its bytes, its size and its attributes, and all descriptors agree with the store.
 ///
 /// Where nothing is missing, nothing changes, and the work is that of looking each needed segment up. Otherwise the clock first
 /// learns which segments were used, by the accessed bits, which are clear then; and the work is that of those bits, and of each
@@ -68,11 +69,16 @@ pub fn serve<S: SwapDevice>(
     ensures locked { (k : ℕ) → 0 < (entry store.old k).attr.lock → IsSome (place_of store.new k) }
 
     ensures here { result ≡ Served.Here → ArePresent store.new need.now (length need.now) }
+    // None leaves that could have stayed: with one of those that left, all would be more than the memory.
+    ensures leave { result ≡ Served.Here → LeaveFor store.old store.new 0 }
     ensures no_room { result ≡ Served.NoRoom
         → store.old.places.size < all_needed store.old need.now }
     ensures always_no_room { store.old.places.size < all_needed store.old need.now
         → result ≡ Served.NoRoom }
     ensures refused { result ≡ Served.NoRoom → (store.new ≡ store.old) × (swap.new ≡ swap.old) }
+    // Where nothing is missing, nothing changes: the clock learns nothing either.
+    ensures same { AreServed store.old need.now
+        → (result ≡ Served.Here) × (store.new ≡ store.old) × (regions.new ≡ regions.old) × (swap.new ≡ swap.old) }
     ensures kept_bits { result ≡ Served.NoRoom → regions.new ≡ regions.old }
     ensures clear { (k : ℕ) → needs need.now k ≡ true → place_of store.old k ≡ None
         → (result ≡ Served.NoRoom → ⊥) → AreUnused regions.new }
@@ -130,6 +136,7 @@ fn bring_all<S: SwapDevice>(
     ensures locked { (k : ℕ) → 0 < (entry store.old k).attr.lock → IsSome (place_of store.new k) }
 
     ensures here { result ≡ Served.Here → ArePresent store.new need.now (length need.now) }
+    ensures leave { result ≡ Served.Here → LeaveFor store.old store.new 0 }
     ensures never { result ≡ Served.NoRoom → ⊥ }
     ensures loads { result ≡ Served.SwapFull
         → (all_of store.old.swap < swap_load store.old)
@@ -189,6 +196,7 @@ fn bring_one<S: SwapDevice>(
     ensures only { OnlyNeededComes need.now store.old store.new }
 
     ensures here { result ≡ Served.Here → IsSome (place_of store.new id.key) }
+    ensures leave { result ≡ Served.Here → LeaveFor store.old store.new 0 }
     ensures never { result ≡ Served.NoRoom → ⊥ }
     ensures loads { result ≡ Served.SwapFull
         → (all_of store.old.swap < swap_load store.old)

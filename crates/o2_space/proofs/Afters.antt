@@ -1,6 +1,6 @@
 -- The world behind a step, from the parts once registers and state are written back.
 use Rattle.std.proofs.Common.{◌≡◌, ℕ, zero, suc, ◌-◌, ◌==◌, ◌&&◌, Bool, true, false, if◌then◌else◌, List, [], ◌∷◌, ◌++◌, Some, None, slice_set, ap, sym, ◌∙◌, refl, subst}
-use Rattle.std.specs.Prelude.{slice_get}
+use Rattle.std.specs.Prelude.{not, slice_get}
 use Rattle.std.specs.List.{list_any}
 use Rattle.o2_conf.specs.Dispatch.{Dispatch}
 use Rattle.o2_world.specs.declared.types.State.{State}
@@ -33,7 +33,7 @@ plain_after p w n x e quiet stands d is =
 -- An effect with and without the exception 1 that follows in it.
 
 pub orderly_before : (b : Before) (e : Effect) → IsOrderly b (single_stepped b e) → IsOrderly b e
-orderly_before b e = go (has_trap_flag b.cpu.flags) (is_live e.state)
+orderly_before b e = go (has_trap_flag b.cpu.flags) (is_live e.state && not e.waits)
   where
     go : (t l : Bool) → IsOrderly b (if t && l then record e { state = Trapped 1; lines = e.lines ++ Traps b.number 1 b.cpu.cs b.cpu.ip ∷ [] } else e) → IsOrderly b e
     go true true o = record { ruled = o.ruled; sizes = o.sizes; moves = o.moves }

@@ -29,7 +29,7 @@ use Rattle.o2_gate.specs.declared.arguments.Arguments.{Arguments}
 use Rattle.o2_gate.specs.Given.{word_in}
 use Rattle.o2_gate.specs.Targets.{looked_in, slots_of, target_in, targets}
 use Rattle.o2_world.specs.declared.types.Slot.{Slot}
-use Rattle.o2_world.specs.declared.types.Slot.TheVariants.{Word, Reads, Writes, Text, ToWord, ToLong, ToWords, Heap}
+use Rattle.o2_world.specs.declared.types.Slot.TheVariants.{Word, Long, Reads, Writes, Text, ToWord, ToLong, ToWords, Heap}
 use Rattle.o2_world.specs.Slots.{Pointer, targets_in, words_in}
 use Rattle.o2_space.proofs.ForValues.{AreForValues, for_values}
 use Rattle.o2_gate.specs.Pointed.{are_ready, pointer}
@@ -94,6 +94,7 @@ module _ (p : Parts) (w : World) (x : Process) (pid : ℕ) (lawful : AreLawful p
   aimed_slots : (ss : List Slot) (looked : ℕ) (a : ℕ → ℕ) → AreForValues ss → StillHolds p.maps n → are_ready (seen p.shelf p.maps pid c) (target_in ss looked a) ≡ true → Aimed (targets_in ss a)
   aimed_slots [] looked a plain holds ready = tt
   aimed_slots (Word ∷ ss) looked a plain holds ready = aimed_slots ss looked a plain holds ready
+  aimed_slots (Long ∷ ss) looked a plain holds ready = absurd plain
   aimed_slots (Reads ∷ ss) looked a plain holds ready = absurd plain
   aimed_slots (Writes ∷ ss) looked a plain holds ready = absurd plain
   aimed_slots (Text ∷ ss) looked a plain holds ready = aimed_slots ss looked a plain holds (and_right _ _ ready)
@@ -107,6 +108,7 @@ module _ (p : Parts) (w : World) (x : Process) (pid : ℕ) (lawful : AreLawful p
   no_slots : (ss : List Slot) (looked : ℕ) (a : ℕ → ℕ) → AreForValues ss → target_in ss looked a ≡ [] → Aimed (targets_in ss a)
   no_slots [] looked a plain none = tt
   no_slots (Word ∷ ss) looked a plain none = no_slots ss looked a plain none
+  no_slots (Long ∷ ss) looked a plain none = absurd plain
   no_slots (Reads ∷ ss) looked a plain none = absurd plain
   no_slots (Writes ∷ ss) looked a plain none = absurd plain
   no_slots (Text ∷ ss) looked a plain none = absurd (cc)

@@ -1,7 +1,7 @@
 -- What goes for the slots of every call on segments: each argument is a word, a pointer to a text, or a pointer for a value.
 use Rattle.std.proofs.Common.{◌≡◌, ℕ, suc, ◌==◌, Bool, true, false, if◌then◌else◌, List, [], ◌∷◌, refl, sym, subst, arith}
 use Rattle.o2_world.specs.declared.types.Slot.{Slot}
-use Rattle.o2_world.specs.declared.types.Slot.TheVariants.{Word, Reads, Writes, Text, ToWord, ToLong, ToWords, Heap}
+use Rattle.o2_world.specs.declared.types.Slot.TheVariants.{Word, Long, Reads, Writes, Text, ToWord, ToLong, ToWords, Heap}
 use Rattle.o2_world.specs.Calls.{row_of}
 use Rattle.o2_world.specs.SharedNames.{looked_at}
 use Rattle.o2_world.specs.Slots.{Pointer}
@@ -23,6 +23,7 @@ use Rattle.o2_calls.specs.Stops.{IsGivable}
 abbrev pub AreForValues : List Slot → Type 0
 AreForValues [] = Unit {0}
 AreForValues (Word ∷ ss) = AreForValues ss
+AreForValues (Long ∷ ss) = ⊥
 AreForValues (Reads ∷ ss) = ⊥
 AreForValues (Writes ∷ ss) = ⊥
 AreForValues (Text ∷ ss) = AreForValues ss
@@ -113,6 +114,7 @@ AreSome (p ∷ ps) = ((p.count == 0) ≡ false) × AreSome ps
 slots_some : (ss : List Slot) (looked : ℕ) (a : ℕ → ℕ) → AreForValues ss → (looked == 0) ≡ false → AreSome (target_in ss looked a)
 slots_some [] looked a plain some = tt
 slots_some (Word ∷ ss) looked a plain some = slots_some ss looked a plain some
+slots_some (Long ∷ ss) looked a plain some = absurd plain
 slots_some (Reads ∷ ss) looked a plain some = absurd plain
 slots_some (Writes ∷ ss) looked a plain some = absurd plain
 slots_some (Text ∷ ss) looked a plain some = (some, slots_some ss looked a plain some)

@@ -135,7 +135,7 @@ module _ (s : Setting) (w : World) (x : Process) (pid : ℕ) (a : Arguments) (ne
   trapped_effect = record e { state = Trapped 1; lines = trapped_lines }
 
   dead_effect : is_live ran.state ≡ false → effect b ≡ trapped_effect
-  dead_effect dead = effect_is ∙ with_flag b e (marked dead) refl
+  dead_effect dead = effect_is ∙ with_flag b e (marked dead) refl refl
 
   dead_state : is_live ran.state ≡ false → ran.state ≡ Trapped 1
   dead_state dead = dead_state_is registers ran.state told.state dead

@@ -33,12 +33,12 @@ pub record ActsAll (w : World) (number : ℕ) (x : Process) (e : Effect) (ran : 
   pub to_console : Gains console_old console_new e.piece
   pub to_report : TakesText ran.whole report_old report_new (lines_text e.lines)
 
--- a sink failed: the machine stands for the same world, the input is as before or as the effect leaves it, and both texts are
+-- a sink failed: the machine stands for the same world, the input is as the effect leaves it, and both texts are
 -- fronts, the report's only behind the whole piece; the effect leaves the segment registers as they were
 pub record ActsInPart (w : World) (e : Effect) (before : Cpu) (p : Parts)
     (left_old left_new console_old console_new report_old report_new : Option (List ℕ)) : Type 0 where
   pub stands : Stands p w
-  pub input : (left_new ≡ left_old) ⊎ (left_new ≡ Some e.input)
+  pub input : left_new ≡ Some e.input
   pub to_console : GainsSome console_old console_new (λ front. IsPrefix front e.piece)
   pub to_report : GainsSome report_old report_new (λ front. IsPrefix front (lines_text e.lines))
   pub in_order : (report_new ≡ report_old) ⊎ Gains console_old console_new e.piece

@@ -26,7 +26,7 @@ use Rattle.o2_run.specs.declared.steps.Stop.TheVariants as halt
 use Rattle.o2_run.specs.declared.fault.Fault.{Fault}
 use Rattle.o2_run.specs.declared.fault.Fault.TheVariants as fault
 use Rattle.o2_run.specs.Faults.{CauseOf}
-use Rattle.o2_stepping.specs.Ran.{IsStill, IsInPart, LeavesFault, AttemptFor, OnAsked, OnMissed as OnStepMissed, OnUndone, TellsTried}
+use Rattle.o2_stepping.specs.Ran.{IsStill, IsInPart, LeavesFault, OnAsked, OnMissed as OnStepMissed, OnUndone, TellsTried}
 use Rattle.o2_stepping.specs.declared.one_step.Attempt.{Attempt}
 use Rattle.o2_stepping.specs.declared.one_step.Attempt.TheVariants as attempt
 use Rattle.o2_stepping.specs.declared.one_step.Stepped.TheVariants as one
@@ -156,12 +156,6 @@ map_undone P Q (Ok (attempt.Stepped (one.Asked a next))) f p = f p
 map_undone P Q (Ok (attempt.Missed s)) f p = f p
 map_undone P Q (Err x) f p = tt
 
-pub map_asked : (P Q : Arguments → Type 0) (r : Result Attempt Fault) → ((a : Arguments) → P a → Q a) → OnAsked r P → OnAsked r Q
-map_asked P Q (Ok (attempt.Stepped (one.Ran ran))) f p = tt
-map_asked P Q (Ok (attempt.Stepped (one.Asked a next))) f p = f a p
-map_asked P Q (Ok (attempt.Missed s)) f p = tt
-map_asked P Q (Err x) f p = tt
-
 -- where none is missed all names are present
 pub all_tell : (v : View) (names : Filling → List ℕ) (r : Result Attempt Fault) → OnUndone r ⊥ → ((f : Filling) → ArePresent v (names f)) → TellsTried v names r
 all_tell v names (Ok (attempt.Stepped x)) e here = here
@@ -174,13 +168,3 @@ both_asked P Q R (Ok (attempt.Stepped (one.Ran ran))) f p q = tt
 both_asked P Q R (Ok (attempt.Stepped (one.Asked a next))) f p q = f a p q
 both_asked P Q R (Ok (attempt.Missed s)) f p q = tt
 both_asked P Q R (Err x) f p q = tt
-
-pub wider_cause : (A B E F : Type 0) (r : Result Attempt Fault) → (A → E) → (B → F) → AttemptFor A B r → AttemptFor E F r
-wider_cause A B E F (Ok (attempt.Stepped (one.Ran ran))) s i c = λ late. s (c late)
-wider_cause A B E F (Ok (attempt.Stepped (one.Asked a next))) s i c = tt
-wider_cause A B E F (Ok (attempt.Missed t)) s i c = tt
-wider_cause A B E F (Err fault.Sink) s i c = s c
-wider_cause A B E F (Err (fault.Stopped halt.Input)) s i c = i c
-wider_cause A B E F (Err (fault.Stopped halt.NoRoom)) s i c = c
-wider_cause A B E F (Err (fault.Stopped halt.SwapFull)) s i c = c
-wider_cause A B E F (Err (fault.Stopped halt.SwapFault)) s i c = c

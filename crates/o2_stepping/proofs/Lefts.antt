@@ -13,7 +13,7 @@ use Rattle.o2_isa.specs.declared.cpu.Stop.TheVariants as stop
 use Rattle.o2_isa.proofs.StepLaws.{step_loads_few}
 use Rattle.o2_place.specs.declared.seg_id.SegId.{SegId}
 use Rattle.o2_world.specs.declared.types.Slot.{Slot}
-use Rattle.o2_world.specs.declared.types.Slot.TheVariants.{Word, Reads, Writes, Text, ToWord, ToLong, ToWords, Heap}
+use Rattle.o2_world.specs.declared.types.Slot.TheVariants.{Word, Long, Reads, Writes, Text, ToWord, ToLong, ToWords, Heap}
 use Rattle.o2_world.specs.Calls.{Before, argument, has_arguments, row_of, rows}
 use Rattle.o2_world.specs.Outcomes.{CallRow}
 use Rattle.o2_world.specs.RowLaws.{EachRow}
@@ -56,6 +56,7 @@ heaped_few v (p ∷ ps) = go (may_have_heap v p.selector) (bound_in v.held p.sel
 abbrev name_count : List Slot → ℕ
 name_count [] = 0
 name_count (Word ∷ ss) = name_count ss
+name_count (Long ∷ ss) = name_count ss
 name_count (Reads ∷ ss) = suc (name_count ss)
 name_count (Writes ∷ ss) = suc (name_count ss)
 name_count (Text ∷ ss) = suc (name_count ss)
@@ -73,6 +74,7 @@ one_heap a b n e = omega (arith, e)
 counted : (ss : List Slot) (v : View) (a : ℕ → ℕ) → length (pointers_in ss v a) + length (heaps_in ss a) ≡ name_count ss
 counted [] v a = refl
 counted (Word ∷ ss) v a = counted ss v a
+counted (Long ∷ ss) v a = counted ss v a
 counted (Reads ∷ ss) v a = one_pointer (length (pointers_in ss v a)) (length (heaps_in ss a)) (name_count ss) (counted ss v a)
 counted (Writes ∷ ss) v a = one_pointer (length (pointers_in ss v a)) (length (heaps_in ss a)) (name_count ss) (counted ss v a)
 counted (Text ∷ ss) v a = one_pointer (length (pointers_in ss v a)) (length (heaps_in ss a)) (name_count ss) (counted ss v a)

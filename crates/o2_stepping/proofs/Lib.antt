@@ -14,6 +14,7 @@ pub mod Steps
 pub mod Puts
 pub mod Reading
 pub mod NextRooms
+pub mod Goings
 pub mod Here
 pub mod ReplyLines
 pub mod Asked

@@ -1,5 +1,5 @@
 -- What a step in a store needs is the room of the world's next step.
-use Rattle.std.proofs.Common.{◌≡◌, ◌⊎◌, inl, inr, ℕ, ◌<◌, ◌≤◌, Bool, true, false, cond, ◌||◌, ◌&&◌, List, [], ◌∷◌, ◌++◌, length, Option, Some, None, ap, sym, ◌∙◌, refl, subst, arith, if◌then◌else◌}
+use Rattle.std.proofs.Common.{◌≡◌, ◌⊎◌, inl, inr, ℕ, ◌<◌, ◌≤◌, Bool, true, false, not, cond, ◌||◌, ◌&&◌, List, [], ◌∷◌, ◌++◌, length, Option, Some, None, ap, sym, ◌∙◌, refl, subst, arith, if◌then◌else◌}
 use Rattle.std.specs.Prelude.{max, nat_lt, option_map}
 use Rattle.std.proofs.lemmas.Bool.{false≢true}
 use mathlib.Core.Path.{fun_ext}
@@ -43,7 +43,7 @@ use Rattle.o2_stepping.proofs.Worlds.{same_map, shown}
 -- The step without the exception 1 that may follow in it.
 
 flagged : {X : Type 0} (f : Effect → X) (b : Before) (e : Effect) → f (record e { state = Trapped 1; lines = e.lines ++ Traps b.number 1 b.cpu.cs b.cpu.ip ∷ [] }) ≡ f e → f (single_stepped b e) ≡ f e
-flagged f b e same = go (has_trap_flag b.cpu.flags && is_live e.state)
+flagged f b e same = go (has_trap_flag b.cpu.flags && (is_live e.state && not e.waits))
   where
     go : (t : Bool) → f (cond t (record e { state = Trapped 1; lines = e.lines ++ Traps b.number 1 b.cpu.cs b.cpu.ip ∷ [] }) e) ≡ f e
     go true = same

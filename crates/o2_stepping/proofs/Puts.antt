@@ -1,5 +1,5 @@
 -- The puts of a step, by those of its call and of the line of an exception.
-use Rattle.std.proofs.Common.{◌≡◌, ℕ, ◌+◌, Bool, true, false, ◌&&◌, [], ◌∷◌, ◌++◌, length, sym, ◌∙◌, refl, subst, arith, length-append, if◌then◌else◌}
+use Rattle.std.proofs.Common.{◌≡◌, ℕ, ◌+◌, Bool, true, false, not, ◌&&◌, [], ◌∷◌, ◌++◌, length, sym, ◌∙◌, refl, subst, arith, length-append, if◌then◌else◌}
 use Rattle.std.specs.Prelude.{Result, Ok, Err}
 use Rattle.o2_base.specs.declared.selector.Selector.{Selector}
 use Rattle.o2_world.specs.World.{Traps, is_live}
@@ -10,7 +10,7 @@ use Rattle.o2_run.specs.declared.fault.Fault.{Fault}
 use Rattle.o2_run.specs.declared.fault.Fault.TheVariants as fault
 use Rattle.o2_run.specs.Pieces.{Counts, counts, Hands, HandsUpTo, SinkHands, PartHands, puts_of}
 use Rattle.o2_gate.specs.declared.called.Called.{Called}
-use Rattle.o2_gate.specs.declared.called.Called.TheVariants.{Asked, Back, Exited, Trap}
+use Rattle.o2_gate.specs.declared.called.Called.TheVariants.{Asked, Back, Exited, Trap, Waits}
 use Rattle.o2_gate.specs.declared.arguments.Arguments.{Arguments}
 use Rattle.o2_gate.specs.Pieces.{CallHands}
 use Rattle.o2_stepping.specs.Pieces.{StepHands, AttemptHands}
@@ -30,6 +30,9 @@ module _ (n : Counts) (x : Called) (hands : CallHands n (Ok x)) where
 
   pub trap_hands : (vector code : ℕ) → x ≡ Trap vector code → Hands n 0 0
   trap_hands vector code is = subst (λ (y : Called). CallHands n (Ok y)) is hands
+
+  pub waits_hands : x ≡ Waits → Hands n 0 0
+  waits_hands is = subst (λ (y : Called). CallHands n (Ok y)) is hands
 
   pub asked_hands : (a : Arguments) (next : ℕ) → x ≡ Asked a next → Hands n 0 0
   asked_hands a next is = subst (λ (y : Called). CallHands n (Ok y)) is hands
@@ -66,7 +69,7 @@ with_line b e n true false h = h
 with_line b e n false live h = h
 
 pub fault_part : (b : Before) (e whole : Effect) (n : Counts) (f : Fault) → whole ≡ single_stepped b e → PartHands {T = Called} e n (Err f) → PartHands {T = Attempt} whole n (Err f)
-fault_part b e whole n fault.Sink is h = subst (λ (x : Effect). HandsUpTo n (puts_of (length x.piece)) 0 (length x.lines)) (sym is) (with_line b e n (has_trap_flag b.cpu.flags) (is_live e.state) h)
+fault_part b e whole n fault.Sink is h = subst (λ (x : Effect). HandsUpTo n (puts_of (length x.piece)) 0 (length x.lines)) (sym is) (with_line b e n (has_trap_flag b.cpu.flags) (is_live e.state && not e.waits) h)
 fault_part b e whole n (fault.Stopped why) is h = tt
 
 -- an attempt as a step, where nothing can be missed

@@ -1,5 +1,5 @@
 -- A step that asks the input changes nothing but bytes, and leaves the segment registers as they are.
-use Rattle.std.proofs.Common.{◌≡◌, ℕ, Bool, true, false, [], ◌∷◌, ◌++◌, ◌&&◌, ◌==◌, if◌then◌else◌, refl, sym, subst}
+use Rattle.std.proofs.Common.{◌≡◌, ℕ, Bool, true, false, not, [], ◌∷◌, ◌++◌, ◌&&◌, ◌==◌, if◌then◌else◌, refl, sym, subst}
 use Rattle.std.specs.Prelude.{Err, codes}
 use Rattle.o2_isa.specs.declared.cpu.Stop.TheVariants as stop
 use Rattle.o2_isa.specs.Presence.{SameSelectors}
@@ -47,4 +47,4 @@ pub reads_quietly : (b : Before) → AsksInput b → IsQuiet b (effect b)
 reads_quietly b asks =
     let e : Effect = serviced b 3 asks.next in
     subst (IsQuiet b) (sym (effect_by b (Err (stop.Gate 3 asks.next)) asks.calls))
-    (quiet_more b e (has_trap_flag b.cpu.flags) (is_live e.state) (read_call b asks.next))
+    (quiet_more b e (has_trap_flag b.cpu.flags) (is_live e.state && not e.waits) (read_call b asks.next))

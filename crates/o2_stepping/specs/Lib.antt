@@ -7,5 +7,6 @@ pub mod Shapes
 pub mod Taken
 pub mod Pieces
 pub mod Nexts
+pub mod Goings
 pub mod Here
 pub mod Replied

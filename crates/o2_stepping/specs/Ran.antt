@@ -61,13 +61,13 @@ pub record IsUnread (b : Before) (registers : Cpu) (old new : ℕ → List ℕ)
   pub cause : AsksInput b
   pub still : IsStill registers b.cpu old new left_old left_new console_old console_new report_old report_new
 
--- a sink failed: registers and bytes are as before, the input is as before or as the effect leaves it, and both texts are fronts,
+-- a sink failed: registers and bytes are as before, the input is as the effect leaves it, and both texts are fronts,
 -- the report's only behind the whole piece; the effect leaves the segment registers as they are
 pub record IsInPart (e : Effect) (registers before : Cpu) (old new : ℕ → List ℕ)
     (left_old left_new console_old console_new report_old report_new : Option (List ℕ)) : Type 0 where
   pub cpu : registers ≡ before
   pub bytes : (n : ℕ) → new n ≡ old n
-  pub input : (left_new ≡ left_old) ⊎ (left_new ≡ Some e.input)
+  pub input : left_new ≡ Some e.input
   pub to_console : GainsSome console_old console_new (λ front. IsPrefix front e.piece)
   pub to_report : GainsSome report_old report_new (λ front. IsPrefix front (lines_text e.lines))
   pub in_order : (report_new ≡ report_old) ⊎ Gains console_old console_new e.piece

@@ -6,11 +6,12 @@ ghost use Rattle.o2_isa.specs.View.{bound_registers};
 ghost use Rattle.o2_isa.specs.Presence.{is_in};
 ghost use Rattle.o2_swapmap.specs.Piles.{all_of};
 ghost use Rattle.o2_regions.specs.Maps.{IsProcess};
+ghost use Rattle.o2_place.specs.Layout.{used};
 ghost use Rattle.o2_store.specs.Frames.{KeepsDevice};
 ghost use Rattle.o2_store.specs.Loads.{live_load, swap_load};
 ghost use Rattle.o2_segbus.specs.Frames.{CanStep};
 ghost use Rattle.o2_segbus.specs.Seen.{hold_in, present_in, seen};
-ghost use Rattle.o2_service.specs.Needs.{AreLive, all_needed};
+ghost use Rattle.o2_service.specs.Needs.{AreLive, OnlyNeededComes, Stays, all_needed};
 ghost use Rattle.o2_stands.specs.Stands.{IsReady};
 ghost use Rattle.o2_world.specs.Known.{Known};
 ghost use Rattle.o2_world.specs.Effect.{effect};
@@ -19,6 +20,7 @@ ghost use Rattle.o2_gate.specs.Targets.{targets};
 ghost use Rattle.o2_gate.specs.Pointed.{ArePresent, are_ready};
 ghost use Rattle.o2_run.specs.Pieces.{PartHands, counts};
 ghost use Rattle.o2_run.specs.Room.{touched};
+ghost use Rattle.o2_stepping.specs.Goings.{GoForRoom, OnlyNamedCome};
 ghost use Rattle.o2_stepping.specs.Pieces.{AttemptHands, StepHands};
 ghost use Rattle.o2_stepping.specs.Ran.{OnAsked, OnMissed, OnUndone};
 ghost use Rattle.o2_stepping.specs.Rooms.{AreNeeded, IsWanted, ages_of, all_names, needed_names, room_in, seated_in};
@@ -62,6 +64,10 @@ fn bring<S: SwapDevice>(
     ensures device { (S.blocks swap.new ≡ S.blocks swap.old) × (IsTrue (S.told swap.new) → IsTrue (S.told swap.old)) }
     ensures can_step { result ≡ Served.Here → CanStep store.new regions.new pid cpu.now }
     ensures here { result ≡ Served.Here → (n : ℕ) → is_in n (ages_of need.now) ≡ true → present_in store.new n ≡ true }
+    ensures only { OnlyNeededComes need.now store.old store.new }
+    ensures stays { Stays need.now store.old store.new }
+    ensures leave { result ≡ Served.Here → GoForRoom store.old store.new }
+    ensures room { used store.new.places.ranges ≤ store.new.places.size }
     ensures no_room { result ≡ Served.NoRoom → store.old.places.size < all_needed store.old need.now }
     ensures loads { result ≡ Served.SwapFull
         → (all_of store.old.swap < swap_load store.old) × (store.old.places.size < live_load store.old) }
@@ -100,6 +106,10 @@ fn bring_in<S: SwapDevice>(
     ensures device { (S.blocks swap.new ≡ S.blocks swap.old) × (IsTrue (S.told swap.new) → IsTrue (S.told swap.old)) }
     ensures can_step { IsOk result → CanStep store.new regions.new pid cpu.now }
     ensures here { IsOk result → (n : ℕ) → is_in n (ages_of need.now) ≡ true → present_in store.new n ≡ true }
+    ensures only { OnlyNeededComes need.now store.old store.new }
+    ensures stays { Stays need.now store.old store.new }
+    ensures leave { IsOk result → GoForRoom store.old store.new }
+    ensures room { used store.new.places.ranges ≤ store.new.places.size }
     ensures causes { OnSwapStop result (store.old.places.size < all_needed store.old need.now)
         ((all_of store.old.swap < swap_load store.old) × (store.old.places.size < live_load store.old))
         (Rose (S.faults swap.old) (S.faults swap.new)) }
@@ -107,6 +117,7 @@ fn bring_in<S: SwapDevice>(
     ensures count { S.faults swap.old ≤ S.faults swap.new }
     ensures idle { Idles (live_load store.old) store.old store.new swap.old swap.new }
 {
+    store.law();
     if here {
         return Ok(());
     }
@@ -167,6 +178,11 @@ fn serve_and_try<S: SwapDevice, I: Source, C: Sink, R: Sink>(
     ensures same { IsTrue (S.told swap.new) → OnUndone result ((n : ℕ)
         → bytes_with (away_of store.new regions.new images.now (S.blocks swap.new) (S.block swap.new)) store.new n
         ≡ bytes_with (away_of store.old regions.old images.now (S.blocks swap.old) (S.block swap.old)) store.old n) }
+    // Nothing else comes into memory, what is needed stays there, and none leaves that could have stayed.
+    ensures only { OnlyNeededComes need.now store.old store.new }
+    ensures stays { Stays need.now store.old store.new }
+    ensures leave { IsOk result → GoForRoom store.old store.new }
+    ensures room { used store.new.places.ranges ≤ store.new.places.size }
     ensures aimed { OnAsked result (λ a. are_ready (seen store.new regions.new pid cpu.new) (targets a) ≡ true) }
     ensures stopped { OnNoStep result ((cpu.new ≡ cpu.old)
         × (input.new ≡ input.old) × (console.new ≡ console.old) × (report.new ≡ report.old)) }
@@ -207,7 +223,7 @@ fn serve_and_try<S: SwapDevice, I: Source, C: Sink, R: Sink>(
 /// One step of process `pid`, all but what an end takes from it, over a store. Where all that its segment registers name is in
 /// memory, it is tried at once. Otherwise, and where the try misses a segment, what it needs comes into memory together, as far as
 /// it is known, and the step is tried; what it misses is needed too, and it is tried again. A try that misses puts nothing and
-/// takes nothing.
+/// takes nothing. What is known to be needed stays in memory from one try to the next, and no more leaves than must.
 ///
 /// Where what it needs doesn't come in, the step isn't taken: `Stop::NoRoom`, `Stop::SwapFull` or `Stop::SwapFault`. A call on
 /// segments isn't made yet: it is asked for, with all that it needs beside its own segment in memory.
@@ -264,6 +280,11 @@ pub fn step_in_store<S: SwapDevice, I: Source, C: Sink, R: Sink>(
     ensures no_room { (bytes : List ℕ) (known : Known) → IsTrue (S.told swap.new)
         → let b = before_in (away_of store.old regions.old images.now (S.blocks swap.old) (S.block swap.old)) store.old regions.old pid cpu.old bytes known in
         OnSwapStop result (store.old.places.size < room_in store.old (needed_names b)) (Unit {0}) (Unit {0}) }
+    // Over all its tries nothing comes into memory that it doesn't need, and none leaves that could have stayed.
+    ensures only { (bytes : List ℕ) (known : Known) → IsTrue (S.told swap.new)
+        → let b = before_in (away_of store.old regions.old images.now (S.blocks swap.old) (S.block swap.old)) store.old regions.old pid cpu.old bytes known in
+        OnlyNamedCome (needed_names b) store.old store.new }
+    ensures leave { IsOk result → GoForRoom store.old store.new }
     ensures loads { OnSwapStop result (Unit {0})
         ((all_of store.old.swap < swap_load store.old) × (store.old.places.size < live_load store.old)) (Unit {0}) }
     // Where nothing is in swap blocks and all that lives fits the memory, the device isn't touched.

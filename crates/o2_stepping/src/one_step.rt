@@ -185,7 +185,8 @@ pub fn absent<R: Sink>(
 }
 
 /// One step of process `pid`, all but what an end takes from it, over a bus whose registers are those of `cpu`. Where a segment
-/// is missed, nothing is changed, and the step may be tried again. A call on segments is asked for, and isn't made yet.
+/// is missed, nothing is changed, and the step may be tried again. A call on segments is asked for, and isn't made yet. One that waits is a
+/// step that puts nothing, behind which no exception 1 follows.
 #[tactic(auto, using(o2_outer::proofs::Inputs::goes_same))]
 pub fn run_one<B: Ranges, I: Source, C: Sink, R: Sink>(
     pid: u16,
@@ -268,6 +269,11 @@ pub fn run_one<B: Ranges, I: Source, C: Sink, R: Sink>(
             }))),
             Ok(Called::Trap(vector, _)) => trap(pid, vector, cpu, &mut services.line, report),
             Ok(Called::Missed(sel)) => Ok(Attempt::Missed(sel)),
+            Ok(Called::Waits) => Ok(Attempt::Stepped(Stepped::Ran(Ran {
+                state: State::Live,
+                tally: Tally { bytes: 0, lines: 0 },
+                whole: true,
+            }))),
             Ok(Called::Asked { arguments, next }) => {
                 Ok(Attempt::Stepped(Stepped::Asked { arguments, next }))
             }

@@ -1,13 +1,13 @@
 -- A range that gets another length.
-use Rattle.std.proofs.Common.{◌≡◌, ◌≢◌, ◌⊎◌, inl, inr, ℕ, ◌+◌, ◌-◌, ◌<◌, ◌≤◌, List, [], length, take, replicate, get_or, Option, Some, None, IsSome, option_map, refl, sym, ap, ◌∙◌, subst, arith, unwrap_or, true, false}
+use Rattle.std.proofs.Common.{◌≡◌, ◌≢◌, ◌⊎◌, inl, inr, ℕ, ◌+◌, ◌-◌, ◌<◌, ◌≤◌, List, [], length, take, get_or, Option, Some, None, IsSome, option_map, refl, sym, ap, ◌∙◌, subst, arith, unwrap_or, true, false}
 use Rattle.std.proofs.lemmas.Bool.{cases_eq}
-use Rattle.std.proofs.lemmas.List.{get_or-take, get_or-replicate, length-replicate}
-use Rattle.o2_phys.specs.Bytes.{part, with_part}
-use Rattle.o2_phys.proofs.Parts.{get-part, get-with_part, get-with_part-before, get-with_part-after}
+use Rattle.std.proofs.lemmas.List.{get_or-take}
+use Rattle.o2_phys.specs.Bytes.{part}
+use Rattle.o2_phys.proofs.Parts.{get-part}
 use Rattle.o2_place.specs.Layout.{Layout, find_in, len_of}
-use Rattle.o2_compact.specs.Parts.{OpensGap, StayBut}
+use Rattle.o2_compact.specs.Parts.{OpensGap}
 use Rattle.o2_store.specs.Shelf.{rounded}
-use Rattle.o2_store.specs.Sizes.{Relengths, Refits, KeepsStarts}
+use Rattle.o2_store.specs.Sizes.{Relengths, Refits}
 use Rattle.o2_store.proofs.Tables.{none_is_none}
 use Rattle.o2_store.proofs.Shifts.{moved_part, moved_none}
 
@@ -47,32 +47,6 @@ opened_range m n p q key at was len g placed longer pos whole w v = record {
   most = g.most;
 }
 
--- a range was shortened where it lies
-pub shortened : (m : List ℕ) (p q : Layout) (key at was len : ℕ) → find_in p.ranges key ≡ Some (at, was) → ((a l : ℕ) → find_in p.ranges key ≡ Some (a, l) → find_in q.ranges key ≡ Some (a, len)) → StayBut p q key → q.size ≡ p.size → q.most ≡ p.most
-    → Relengths m p m q key len
-shortened m p q key at was len placed here stay size most = record {
-  none = λ k e. elim (cases_eq k key) [
-    | inl same ↦ absurd (none_is_none placed (subst (λ (x : ℕ). find_in p.ranges x ≡ None) same e))
-    | inr ne ↦ stay k ne ∙ e
-  ];
-  others = λ k a l ne e. (a, stay k ne ∙ e, λ j x. refl);
-  here = λ a l e. (a, here a l e, λ j x y. refl);
-  whole = refl;
-  size = size;
-  most = most;
-}
-
--- bytes that were cleared, and those that weren't
-pub wiped_outside : (m : List ℕ) (at old new i : ℕ) → at + new ≤ length m → old < new → (i < at + old) ⊎ (at + new ≤ i) → get_or (with_part m (at + old) (replicate (new - old) 0)) i 0 ≡ get_or m i 0
-wiped_outside m at old new i w l (inl b) = let z : length (replicate {A = ℕ} (new - old) 0) ≡ new - old = length-replicate {A = ℕ} (new - old) 0 in get-with_part-before m (replicate (new - old) 0) (at + old) i (omega (arith, z)) b
-wiped_outside m at old new i w l (inr a) = let z : length (replicate {A = ℕ} (new - old) 0) ≡ new - old = length-replicate {A = ℕ} (new - old) 0 in get-with_part-after m (replicate (new - old) 0) (at + old) i (omega (arith, z)) (omega (arith, z, a))
-
-pub wiped_zero : (m : List ℕ) (at old new j : ℕ) → at + new ≤ length m → old ≤ j → j < new → get_or (with_part m (at + old) (replicate (new - old) 0)) (at + j) 0 ≡ 0
-wiped_zero m at old new j w a b =
-    let z : length (replicate {A = ℕ} (new - old) 0) ≡ new - old = length-replicate {A = ℕ} (new - old) 0 in
-    let e : at + old + (j - old) ≡ at + j = omega arith in
-    rw e at (get-with_part m (replicate (new - old) 0) (at + old) (j - old) (omega (arith, z)) (omega (arith, z))) ∙ get_or-replicate (new - old) (j - old) 0 0 (omega arith)
-
 -- a range gets the length for a size, and what it has grown is cleared
 pub refitted : (m o n : List ℕ) (p q : Layout) (key old new len : ℕ) → Relengths m p o q key len → len ≡ rounded new → length n ≡ length o
     → ((at l : ℕ) → find_in p.ranges key ≡ Some (at, l) → l ≡ rounded old)
@@ -99,17 +73,6 @@ refitted m o n p q key old new len r le long was outside zeros apart some = reco
     there None e i = absurd (let f : false ≡ true = i in cc)
     there (Some y) e i = let g = r.here y.0 y.1 e in (g.0, g.1)
 
--- a range that isn't there
-pub unfitted : (m : List ℕ) (p : Layout) (key old new : ℕ) → find_in p.ranges key ≡ None → Refits m p m p key old new
-unfitted m p key old new none = record {
-  none = λ k e. e;
-  others = λ k a l ne e. (a, e, λ j x. refl);
-  here = λ a l e. absurd (none_is_none e none);
-  whole = refl;
-  size = refl;
-  most = refl;
-}
-
 -- a range that has the length already
 pub same_length : (m : List ℕ) (p : Layout) (key len : ℕ) → ((at : ℕ) × (find_in p.ranges key ≡ Some (at, len))) → Relengths m p m p key len
 same_length m p key len h = record {
@@ -120,10 +83,3 @@ same_length m p key len h = record {
   size = refl;
   most = refl;
 }
-
--- a range that loses its end
-pub shorter_starts : (p q : Layout) (key at was len : ℕ) → find_in p.ranges key ≡ Some (at, was) → find_in q.ranges key ≡ Some (at, len) → StayBut p q key → KeepsStarts p q
-shorter_starts p q key at was len e f others k = elim (cases_eq k key) [
-  | inl same ↦ rw (same, e, f) refl
-  | inr other ↦ ap (option_map (λ (r : ℕ × ℕ). r.0)) (others k other)
-]

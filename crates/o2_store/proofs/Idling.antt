@@ -1,5 +1,5 @@
 -- A store of which nothing is in swap blocks.
-use Rattle.std.proofs.Common.{◌≡◌, ◌⊎◌, inl, inr, ℕ, ◌<◌, [], length, take, refl, ap, sym, ◌∙◌, subst, arith}
+use Rattle.std.proofs.Common.{◌≡◌, ◌⊎◌, inl, inr, ℕ, ◌<◌, [], length, take, ap, sym, ◌∙◌, arith}
 use Rattle.std.proofs.lemmas.Bool.{cases_eq, cases_lt}
 use Rattle.std.proofs.Math.Seq.{take-nil}
 use Rattle.o2_swapmap.specs.Piles.{Blocks, blocks_of, OnlyOf}
@@ -21,10 +21,6 @@ none_given m n id keep only kept before = record { none = λ k l. each k (omega 
       | inl same ↦ ap (blocks_of n) same ∙ kept ∙ ap (take keep) (ap (blocks_of m) (sym same) ∙ before.none k l) ∙ take-nil keep
       | inr other ↦ only.others k other (λ e. absurd (omega (arith, l, e))) ∙ before.none k l
     ]
-
--- a call that changes neither the swap blocks nor the device
-pub idle_still : {D : Type 0} (s t : Shelf) (x : D) → t.swap ≡ s.swap → NoneTaken s.swap → IsIdle t x x
-idle_still s t x same none = record { device = refl; none = subst NoneTaken (sym same) none }
 
 -- by whether so much fits
 pub idle_or : {D : Type 0} (load : ℕ) (s t : Shelf) (x y : D) → Idles load s t x y → NoneTaken s.swap → IsIdle t x y ⊎ (s.places.size < load)

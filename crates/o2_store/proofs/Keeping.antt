@@ -11,7 +11,7 @@ use Rattle.o2_place.specs.declared.clock.Mark.{Mark}
 use Rattle.o2_place.specs.Layout.{Layout, Changes}
 use Rattle.o2_place.specs.Marks.{Turns, mark_of, no_mark, OnlyUnmarks}
 use Rattle.o2_swapmap.specs.Piles.{Blocks, blocks_of, OnlyOf, NoneTwice}
-use Rattle.o2_store.specs.Shelf.{Shelf, IsShelf, IsSegment, entry, entry_or, place_of, blocks_for, Pictures, byte_at, byte_in, out_byte, source_byte, stored_byte, KeepsAll, SameEntry, SameTables, AreClean, IsOther, IsSaved}
+use Rattle.o2_store.specs.Shelf.{Shelf, IsShelf, IsSegment, entry, entry_or, place_of, blocks_for, Pictures, byte_at, byte_in, out_byte, source_byte, KeepsAll, SameEntry, SameTables, AreClean, IsOther, IsSaved}
 use Rattle.o2_store.proofs.Tables.{Touches, IsShelf-touch, slot-past, slot-set_same, slot-set_other, place-same, place-other, marks_other, marks_same, marks_long, within_at, none_is_none, locked_at}
 
 pub same_entry : (o : Option Entry) → SameEntry o o
@@ -265,15 +265,6 @@ clean_gone pic s p u key h c marks a =
     let t : Shelf = record s { places = p; turns = u } in
     clean_keeps s t pic key h a (gone_touches s p u key c marks) refl (λ at len clean place. none_is_none place (place-same s.places p key None c))
 
--- a written front, and zeros behind it
-pub saved_bytes : (s : Shelf) (pic : Pictures) (block : ℕ → List ℕ) (key at kept size j : ℕ) (e : Entry) → slot_at s.entries key ≡ Some e → e.kept ≡ kept → e.image ≡ None
-    → ((j : ℕ) → j < kept → stored_byte s.swap block key j ≡ get_or s.memory (at + j) 0) → ((j : ℕ) → kept ≤ j → j < size → get_or s.memory (at + j) 0 ≡ 0) → j < size
-    → out_byte s pic block key j ≡ get_or s.memory (at + j) 0
-saved_bytes s pic block key at kept size j e slot ke image written zeros l = elim (cases_lt j kept) [
-  | inl w ↦ (let t : ltb j kept ≡ true = grind (arith, nat_tests) in rw (slot, ke, t, image) (written j w))
-  | inr past ↦ (let t : ltb j kept ≡ false = grind (arith, nat_tests) in rw (slot, ke, t) (sym (zeros j past l)))
-]
-
 pub gone_tables : (s : Shelf) (p : Layout) (u : Turns) (key : ℕ) → Changes s.places p key None → SameTables s (record s { places = p; turns = u })
 gone_tables s p u key c = record { same = λ k. same_entry (slot_at s.entries k); count = refl; made = refl; size = c.size }
 
@@ -286,10 +277,6 @@ pub saved_there : (told : Bool) (pic : Pictures) (s : Shelf) (block : ℕ → Li
 saved_there told pic s block key at n e saved w to len j q l =
     let same : at ≡ to = same_at at n to len (sym e ∙ q) in
     saved w j l ∙ ap (λ (x : ℕ). get_or s.memory (x + j) 0) same
-
--- a clean segment is saved in its image
-pub saved_clean : (told : Bool) (pic : Pictures) (s : Shelf) (block : ℕ → List ℕ) (key : ℕ) → AreClean s pic → (entry s key).attr.clean ≡ true → IsSaved told pic s block key
-saved_clean told pic s block key c clean w at len j q l = sym (c.bytes key at len j clean q l block)
 
 -- the clock alone changes, and presence stays
 pub IsShelf-unmarked : (s : Shelf) (u : Turns) → IsShelf s → OnlyUnmarks s.turns.marks u.marks → IsShelf (record s { turns = u })

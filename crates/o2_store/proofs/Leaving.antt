@@ -14,7 +14,7 @@ pub some_not_none : (o : Option (ℕ × ℕ)) → IsSome o → o ≡ None → �
 some_not_none o i n = let f : false ≡ true = sym (ap is_some n) ∙ i in cc
 
 -- presence as a case
-by_presence : (o : Option (ℕ × ℕ)) → (o ≡ None) ⊎ IsSome o
+pub by_presence : (o : Option (ℕ × ℕ)) → (o ≡ None) ⊎ IsSome o
 by_presence None = inl refl
 by_presence (Some r) = inr refl
 
@@ -61,15 +61,6 @@ leaves s t key memory c slots placed written = record {
     | inl e ↦ subst (λ (x : ℕ). IsWrittenOut s t x) (sym e) (written (subst (λ (x : ℕ). (entry s x).attr.clean ≡ false) e clean))
     | inr d ↦ absurd (some_not_none (place_of s k) i (sym (place-other s.places t.places key k None c d) ∙ n))
   ];
-}
-
--- one segment gets blocks, and none leaves
-pub saves : (s t : Shelf) (key : ℕ) → t.memory ≡ s.memory → t.places ≡ s.places → ((k : ℕ) → k ≢ key → slot_at t.entries k ≡ slot_at s.entries k) → IsSome (place_of s key) → Evicts s t
-saves s t key memory places slots placed = record {
-  memory = memory;
-  places = λ k i. rw places refl;
-  entries = λ k n. slots k (λ e. some_not_none (place_of s key) placed (ap (place_of s) (sym e) ∙ n));
-  written = λ k i n c. absurd (some_not_none (place_of s k) i (rw places at n));
 }
 
 -- a segment whose blocks keep its bytes up to the last one that isn't zero

@@ -3,19 +3,16 @@ use Rattle.std.proofs.Common.{◌≡◌, ◌≢◌, ◌⊎◌, inl, inr, ℕ, �
 use Rattle.std.proofs.lemmas.Bool.{cases_eq, cases_lt}
 use Rattle.std.proofs.lemmas.Bool.Decides.{nat_tests}
 use Rattle.std.proofs.lemmas.List.{length-set}
-use Rattle.std.specs.Option.{IfSome, IfNone}
 use Rattle.o2_entries.specs.declared.Entry.{Entry}
 use Rattle.o2_entries.specs.declared.Attr.{Attr}
 use Rattle.o2_entries.specs.Tables.{slot_at}
 use Rattle.o2_image.specs.ImageList.{ImageList}
 use Rattle.o2_phys.specs.Bytes.{with_part}
 use Rattle.o2_phys.proofs.Parts.{get-with_part-before, get-with_part-after}
-use Rattle.o2_place.specs.declared.seg_id.SegId.{SegId}
 use Rattle.o2_place.specs.Marks.{Turns}
 use Rattle.o2_swapmap.specs.Piles.{all_of}
 use Rattle.o2_store.specs.Pictures.{picture, HasPicture}
-use Rattle.o2_store.specs.Shelf.{Shelf, IsShelf, SameTables, AreClean, Pictures, KeepsAll, Adds, Removes, entry, entry_or, place_of, aged, base_of, out_byte}
-use Rattle.o2_store.specs.Sizes.{Resizes}
+use Rattle.o2_store.specs.Shelf.{Shelf, IsShelf, SameTables, AreClean, Removes, entry, entry_or, place_of, aged, base_of, out_byte}
 use Rattle.o2_store.specs.Trials.{IsReady}
 use Rattle.o2_store.proofs.Tables.{slot-past, slot-set_same, slot-set_other, none_is_none, placed_at}
 use Rattle.o2_store.proofs.Keeping.{clean_source}
@@ -28,65 +25,6 @@ ready_same s t im m n h q c map b = record {
   clean = c;
   device = omega (arith, h.device, map, b);
 }
-
--- after a call that gives a size
-ready_sized : (told : Bool) (s t : Shelf) (im : ImageList) (m n : ℕ) (pic : Pictures) (a b : ℕ → List ℕ) (key size : ℕ) → IsReady s im m → Resizes told pic s a t b key size → AreClean t (picture im) → all_of t.swap ≡ all_of s.swap → n ≡ m → IsReady t im n
-ready_sized told s t im m n pic a b key size h q c map e = record {
-  pictured = λ k x y i. elim (cases_eq k key) [
-    | inl same ↦ h.pictured k x y (subst (λ (z : ℕ). (entry s z).image ≡ Some (x, y)) (sym same) (q.here.image (x, y) (subst (λ (z : ℕ). (entry t z).image ≡ Some (x, y)) same i)))
-    | inr ne ↦ h.pictured k x y ((q.same k ne).image (x, y) i)
-  ];
-  clean = c;
-  device = omega (arith, h.device, map, e);
-}
-
-pub ready_resized : (here : Type 0) (d : here ⊎ (here → ⊥)) (told : Bool) (s t : Shelf) (im : ImageList) (m n : ℕ) (pic : Pictures) (a b : ℕ → List ℕ) (key size : ℕ) → IsReady s im m
-    → (here → Resizes told pic s a t b key size) → ((here → ⊥) → KeepsAll told pic s a t b) → AreClean t (picture im) → all_of t.swap ≡ all_of s.swap → n ≡ m → IsReady t im n
-ready_resized here (inl x) told s t im m n pic a b key size h q k c map e = ready_sized told s t im m n pic a b key size h (q x) c map e
-ready_resized here (inr x) told s t im m n pic a b key size h q k c map e = ready_same s t im m n h (k x).tables c map e
-
-ready_adds : (s t : Shelf) (im : ImageList) (n : ℕ) (id : SegId) (e : Entry) → IsShelf s → IsReady s im n → ((x y : ℕ) → e.image ≡ Some (x, y) → HasPicture im x y) → Adds s t id e → IsReady t im n
-ready_adds s t im n id e shelf h image a =
-    let u : Shelf = record s { entries = set s.entries id.key (Some e); made = s.made + 1 } in
-    let here : slot_at u.entries id.key ≡ Some e = slot-set_same s.entries id.key (Some e) a.within in
-    let out : place_of s id.key ≡ None = (shelf.each id.key a.within).dead a.vacant in
-    let r : IsReady u im n = record {
-      pictured = λ k x y i. elim (cases_eq k id.key) [
-        | inl same ↦ image x y (ap (λ (o : Option Entry). (entry_or o).image) (sym here) ∙ subst (λ (z : ℕ). (entry u z).image ≡ Some (x, y)) same i)
-        | inr ne ↦ h.pictured k x y (ap (λ (o : Option Entry). (entry_or o).image) (sym (slot-set_other s.entries id.key k (Some e) ne)) ∙ i)
-      ];
-      clean = record {
-        bytes = λ k at len j clean place l block. elim (cases_eq k id.key) [
-          | inl same ↦ absurd (none_is_none (subst (λ (z : ℕ). place_of s z ≡ Some (at, len)) same place) out)
-          | inr ne ↦
-              (let slot = slot-set_other s.entries id.key k (Some e) ne in
-              rw slot (h.clean.bytes k at len j (sym (ap (λ (o : Option Entry). (entry_or o).attr.clean) slot) ∙ clean) place (subst (λ (o : Option Entry). j < (entry_or o).size) slot l) block))
-        ];
-      };
-      device = h.device;
-    } in
-    subst (λ (x : Shelf). IsReady x im n) (sym a.shelf) r
-
--- after an addition that may find no room
-pub ready_added : (A : Type 0) (s t : Shelf) (im : ImageList) (n : ℕ) (e : Entry) (o : Option SegId) → IsShelf s → IsReady s im n → ((x y : ℕ) → e.image ≡ Some (x, y) → HasPicture im x y)
-    → IfNone o (A × (t ≡ s)) → IfSome o (λ id. Adds s t id e) → IsReady t im n
-ready_added A s t im n e None shelf h image none a = subst (λ (x : Shelf). IsReady x im n) (sym none.1) h
-ready_added A s t im n e (Some id) shelf h image none a = ready_adds s t im n id e shelf h image a
-
-pub made_added : (A : Type 0) (s t : Shelf) (e : Entry) (o : Option SegId) → IfNone o (A × (t ≡ s)) → IfSome o (λ id. Adds s t id e) → t.made ≤ s.made + 1
-made_added A s t e None n a = let m = ap (λ (x : Shelf). x.made) n.1 in omega (arith, m)
-made_added A s t e (Some id) n a = let m = ap (λ (x : Shelf). x.made) a.shelf in omega (arith, m)
-
--- no image is none
-pub no_picture : (im : ImageList) (x y : ℕ) → ◌≡◌ {A = Option (ℕ × ℕ)} None (Some (x, y)) → HasPicture im x y
-no_picture im x y e = absurd cc
-
--- the one image
-pub one_picture : (im : ImageList) (m k x y : ℕ) → HasPicture im m k → ◌≡◌ {A = Option (ℕ × ℕ)} (Some (m, k)) (Some (x, y)) → HasPicture im x y
-one_picture im m k x y h e =
-    let a : m ≡ x = ap (λ (o : Option (ℕ × ℕ)). (unwrap_or o (0, 0)).0) e in
-    let b : k ≡ y = ap (λ (o : Option (ℕ × ℕ)). (unwrap_or o (0, 0)).1) e in
-    subst (λ (z : ℕ). HasPicture im z y) a (subst (λ (z : ℕ). HasPicture im m z) b h)
 
 empty_slot : (es : List (Option Entry)) (key : ℕ) → slot_at (set es key None) key ≡ None
 empty_slot es key = elim (cases_lt key (length es)) [
@@ -124,10 +62,6 @@ ready_removed s t im n key shelf h r map =
 pub ready_remove : (b : Bool) (s t : Shelf) (im : ImageList) (n key : ℕ) → IsShelf s → IsReady s im n → (b ≡ false → t ≡ s) → (b ≡ true → Removes s t key) → all_of t.swap ≡ all_of s.swap → IsReady t im n
 ready_remove true s t im n key shelf h stale r map = ready_removed s t im n key shelf h (r refl) map
 ready_remove false s t im n key shelf h stale r map = subst (λ (x : Shelf). IsReady x im n) (sym (stale refl)) h
-
-pub made_remove : (b : Bool) (s t : Shelf) (key : ℕ) → (b ≡ false → t ≡ s) → (b ≡ true → Removes s t key) → t.made ≡ s.made
-made_remove true s t key stale r = ap (λ (x : Shelf). x.made) (r refl).shelf
-made_remove false s t key stale r = ap (λ (x : Shelf). x.made) (stale refl)
 
 -- other attributes
 pub ready_attr : (s t : Shelf) (u : Turns) (im : ImageList) (n key : ℕ) (a : Attr) → IsReady s im n → key < length s.entries → t
@@ -185,12 +119,6 @@ ready_put s t im n o key at offset bytes shelf h base fits written within apart 
     } in
     subst (λ (x : Shelf). IsReady x im n) (sym e) r
 
--- a use in the clock
-pub ready_touched : (s t : Shelf) (im : ImageList) (n : ℕ) → IsReady s im n → t ≡ record s { turns = t.turns } → IsReady t im n
-ready_touched s t im n h e =
-    let r : IsReady (record s { turns = t.turns }) im n = record { pictured = h.pictured; clean = record { bytes = h.clean.bytes }; device = h.device } in
-    subst (λ (x : Shelf). IsReady x im n) (sym e) r
-
 -- a segment's size, and whether it is clean, as they were asked for
 pub size_by : (age : ℕ) (o : Option Entry) (n : ℕ) → option_map (λ (e : Entry). e.size) (aged age o) ≡ Some n → (entry_or o).size ≡ n
 size_by age None n q = absurd cc
@@ -211,10 +139,6 @@ pub ready_lock : (b : Bool) (s t : Shelf) (u : Turns) (im : ImageList) (n key : 
     → (b ≡ true → t ≡ record s { turns = u; entries = set s.entries key (Some (record (entry s key) { attr = a })) }) → a.clean ≡ (entry s key).attr.clean → IsReady t im n
 ready_lock true s t u im n key a h l stale is clean = ready_attr s t u im n key a h l (is refl) clean
 ready_lock false s t u im n key a h l stale is clean = subst (λ (x : Shelf). IsReady x im n) (sym (stale refl)) h
-
-pub made_lock : (b : Bool) (s t : Shelf) (u : Turns) (key : ℕ) (a : Attr) → (b ≡ false → t ≡ s) → (b ≡ true → t ≡ record s { turns = u; entries = set s.entries key (Some (record (entry s key) { attr = a })) }) → t.made ≡ s.made
-made_lock true s t u key a stale is = ap (λ (x : Shelf). x.made) (is refl)
-made_lock false s t u key a stale is = ap (λ (x : Shelf). x.made) (stale refl)
 
 pub live_by : (age : ℕ) (o : Option Entry) (a : Attr) → option_map (λ (e : Entry). e.attr) (aged age o) ≡ Some a → IsSome o
 live_by age None a q = absurd cc

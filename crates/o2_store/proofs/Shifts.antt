@@ -42,9 +42,6 @@ moved_is s m p h q w v = record {
   load = q.load;
 }
 
-pub moved_refl : (s : Shelf) → IsMoved s s
-moved_refl s = record { shelf = refl; none = λ k e. e; some = λ k at len e. (at, e, λ j l. refl); size = refl; load = refl }
-
 presence_by : (s t : Shelf) (k : ℕ) → IsMoved s t → (o : Option (ℕ × ℕ)) → place_of s k ≡ o → is_some (place_of t k) ≡ is_some o
 presence_by s t k q None e = ap is_some (q.none k e)
 presence_by s t k q (Some r) e = ap is_some (q.some k r.0 r.1 e).1
@@ -193,36 +190,9 @@ IsShelf-settle s p u key at x h l live none c marks there =
       clean = old.clean;
     }))
 
--- a segment whose bytes lie at a place is in memory from now on
-pub keeps_settle : (told : Bool) (pic : Pictures) (s : Shelf) (p : Layout) (u : Turns) (key at len : ℕ) (b : ℕ → List ℕ) → Changes s.places p key (Some (at, len)) → place_of s key ≡ None
-    → (IsTrue told → (j : ℕ) → j < (entry s key).size → get_or s.memory (at + j) 0 ≡ out_byte s pic b key j) → KeepsAll told pic s b (record s { places = p; turns = u }) b
-keeps_settle told pic s p u key at len b c none read = record {
-  bytes = λ t k j w. elim (cases_eq k key) [
-    | inl e ↦ rw (e, place-same s.places p key (Some (at, len)) c, none) (read t j (subst (λ (x : ℕ). j < (entry s x).size) e w))
-    | inr n ↦ rw (place-other s.places p key k (Some (at, len)) c n) refl
-  ];
-  tables = record { same = λ k. same_entry (slot_at s.entries k); count = refl; made = refl; size = c.size };
-}
-
 clean_any : (o : Option (ℕ × ℕ)) (pic : Pictures) (m : Blocks) (a b : ℕ → List ℕ) (k j : ℕ) → IsSome o → source_byte o pic m b k j ≡ source_byte o pic m a k j
 clean_any None pic m a b k j i = absurd (let f : false ≡ true = i in cc)
 clean_any (Some p) pic m a b k j i = refl
-
-pub clean_settle : (pic : Pictures) (s : Shelf) (p : Layout) (u : Turns) (key at len : ℕ) (b : ℕ → List ℕ) → IsShelf s → key < length s.entries → Changes s.places p key (Some (at, len))
-    → (IsSome (entry s key).image → (j : ℕ) → j < (entry s key).size → get_or s.memory (at + j) 0 ≡ out_byte s pic b key j) → AreClean s pic → AreClean (record s { places = p; turns = u }) pic
-clean_settle pic s p u key at len b h l c read a = record {
-  bytes = λ k x y j clean place m block. elim (cases_eq k key) [
-    | inl e ↦
-        (let q : find_in p.ranges key ≡ Some (x, y) = subst (λ (i : ℕ). find_in p.ranges i ≡ Some (x, y)) e place in
-        let there : at ≡ x = same_at at len x y (sym (place-same s.places p key (Some (at, len)) c) ∙ q) in
-        let sized : j < (entry s key).size = subst (λ (i : ℕ). j < (entry s i).size) e m in
-        let is_clean : (entry s key).attr.clean ≡ true = subst (λ (i : ℕ). (entry s i).attr.clean ≡ true) e clean in
-        let i = (h.each key l).clean is_clean in
-        subst (λ (i : ℕ). get_or s.memory (x + j) 0 ≡ out_byte s pic block i j) (sym e)
-        (ap (λ (z : ℕ). get_or s.memory (z + j) 0) (sym there) ∙ read i j sized ∙ ap (λ (z : ℕ). if ltb j (entry s key).kept then z else 0) (clean_any (entry s key).image pic s.swap block b key j i)))
-    | inr n ↦ a.bytes k x y j clean (sym (place-other s.places p key k (Some (at, len)) c n) ∙ place) m block
-  ];
-}
 
 -- others stay in memory where one comes in
 pub others_in : (s t u v : Shelf) (key at len : ℕ) → IsMoved s t → u ≡ record t { memory = u.memory } → Changes u.places v.places key (Some (at, len)) → (k : ℕ) → IsSome (place_of s k) → IsSome (place_of v k)

@@ -1,10 +1,11 @@
 -- What is left of segments that leave the memory.
-use Rattle.std.specs.Prelude.{◌≡◌, ◌≢◌, ℕ, ◌+◌, ◌-◌, ◌<◌, List, Some, None, IsSome, false, slice_index_or}
+use Rattle.std.specs.Prelude.{◌≡◌, ◌≢◌, ◌⊎◌, ℕ, ◌+◌, ◌-◌, ◌<◌, ◌≤◌, List, Some, None, is_some, IsSome, false, if◌then◌else◌, slice_index_or}
 use Rattle.o2_entries.specs.Tables.{slot_at}
 use Rattle.o2_place.specs.declared.seg_id.SegId.{SegId}
+use Rattle.o2_place.specs.Layout.{used}
 use Rattle.o2_place.specs.Marks.{IsVictim}
 use Rattle.o2_store.specs.Needs.{named_in}
-use Rattle.o2_store.specs.Shelf.{Shelf, IsFull, entry, entry_of, place_of}
+use Rattle.o2_store.specs.Shelf.{Shelf, IsFull, entry, entry_of, place_of, rounded}
 
 -- the segment has no image any more, and the last byte that its blocks keep isn't zero
 pub record IsWrittenOut (old new : Shelf) (k : ℕ) : Type 0 where
@@ -44,3 +45,23 @@ pub record MayLeave (s : Shelf) (key : ℕ) (keep : List SegId) (out : SegId) : 
   pub unlocked : (entry s out.key).attr.lock ≡ 0
   pub other : out.key ≢ key
   pub unnamed : named_in s.entries keep out.key ≡ false
+
+-- what a segment has yet to get of the memory: nothing where it is there
+abbrev pub lacking : Shelf → ℕ → ℕ
+lacking s key = if is_some (place_of s key) then 0 else rounded (entry s key).size
+
+-- no segment leaves the memory, and no less of it is taken
+pub record NoneLeaves (old new : Shelf) : Type 0 where
+  pub each : (k : ℕ) → IsSome (place_of old k) → IsSome (place_of new k)
+  pub load : used old.places.ranges ≤ used new.places.ranges
+
+-- one that left the memory had to: with it there too, so many bytes would have no room
+pub record HadToLeave (old new : Shelf) (len : ℕ) : Type 0 where
+  pub number : ℕ
+  pub was : IsSome (place_of old number)
+  pub out : place_of new number ≡ None
+  pub short : new.places.size < used new.places.ranges + rounded (entry old number).size + len
+
+-- segments leave the memory for so many bytes alone: none does, or one of them had to
+abbrev pub LeaveFor : (old new : Shelf) → (len : ℕ) → Type 0
+LeaveFor old new len = NoneLeaves old new ⊎ HadToLeave old new len

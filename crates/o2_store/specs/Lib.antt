@@ -1,4 +1,6 @@
+pub mod Asked
 pub mod Frames
+pub mod Gaps
 pub mod Idle
 pub mod Leaving
 pub mod Lending

@@ -2,9 +2,10 @@
 ghost use Rattle.std.specs.Prelude.{◌≡◌, ◌≢◌, ◌⊎◌, ℕ, ◌+◌, ◌-◌, ◌*◌, ◌<◌, ◌≤◌, ◌^◌, length, slice_index, IsTrue, []};
 ghost use Rattle.o2_outer.specs.Answers.{HasCause};
 ghost use Rattle.o2_swapmap.specs.Piles.{blocks_of, all_of};
+ghost use Rattle.o2_store.specs.Asked.{AsksFor};
 ghost use Rattle.o2_store.specs.Shelf.{blocks_for, stored_byte, IsOther};
 
-use o2_outer::{Dev, SwapDevice};
+use o2_outer::{Dev, SwapDevice, read_block};
 use o2_phys::Phys;
 use o2_swapmap::SwapMap;
 
@@ -41,6 +42,7 @@ pub(crate) fn write_out<S: SwapDevice>(
     requires device { all_of map.now ≤ S.blocks swap.old }
     ensures device { (S.blocks swap.new ≡ S.blocks swap.old) × (IsTrue (S.told swap.new) → IsTrue (S.told swap.old)) }
     ensures others { IsTrue (S.told swap.new) → (b : ℕ) → IsOther map.now key b → S.block swap.new b ≡ S.block swap.old b }
+    ensures unasked { S.asked swap.new ≡ S.asked swap.old }
     ensures written { IsTrue (S.told swap.new) → result ≡ Dev.Done → (j : ℕ) → j < size → stored_byte map.now (S.block swap.new) key j ≡ slice_index phys.now (at + j) }
     ensures cause { HasCause (S.faults swap.old) (S.faults swap.new) result }
 {
@@ -59,7 +61,7 @@ pub(crate) fn write_out<S: SwapDevice>(
     Dev::Done
 }
 
-/// Reads so many bytes from the blocks of an owner into a range.
+/// Reads so many bytes from the blocks of an owner into a range, of each block what the device knows.
 pub(crate) fn read_in<S: SwapDevice>(
     phys: &mut Phys,
     map: &SwapMap,
@@ -76,6 +78,7 @@ pub(crate) fn read_in<S: SwapDevice>(
     ensures device { (S.blocks swap.new ≡ S.blocks swap.old) × (IsTrue (S.told swap.new) → IsTrue (S.told swap.old)) }
     ensures same { IsTrue (S.told swap.new) → (b : ℕ) → S.block swap.new b ≡ S.block swap.old b }
     ensures none { blocks_of map.now key ≡ [] → swap.new ≡ swap.old }
+    ensures asks { AsksFor (S.known swap.new) (blocks_of map.now key) (S.asked swap.old) (S.asked swap.new) (result ≡ Dev.Done) }
     ensures length { length phys.new ≡ length phys.old }
     ensures outside { (i : ℕ) → (i < at) ⊎ (at + kept ≤ i) → slice_index phys.new i ≡ slice_index phys.old i }
     ensures read { IsTrue (S.told swap.new) → result ≡ Dev.Done → (j : ℕ) → j < kept → slice_index phys.new (at + j) ≡ stored_byte map.now (S.block swap.old) key j }
@@ -87,7 +90,7 @@ pub(crate) fn read_in<S: SwapDevice>(
     for k in 0..(kept + 511) / 512 {
         let start = 512 * k;
         let n = (kept - start).min(512);
-        if let Dev::Failed = swap.read(list[k as usize], &mut buffer) {
+        if let Dev::Failed = read_block(list[k as usize], &mut buffer, swap) {
             return Dev::Failed;
         }
         phys.write(at + start, &buffer[..n as usize]);

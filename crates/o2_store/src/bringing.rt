@@ -4,10 +4,11 @@ ghost use Rattle.std.specs.Option.{IfNone};
 ghost use Rattle.o2_entries.specs.Tables.{slot_at};
 ghost use Rattle.o2_place.specs.Layout.{IsFree, used};
 ghost use Rattle.o2_place.specs.Marks.{IsKept, IsOutside, IsVictim, place_in};
-ghost use Rattle.o2_swapmap.specs.Piles.{all_of};
+ghost use Rattle.o2_swapmap.specs.Piles.{all_of, blocks_of};
+ghost use Rattle.o2_store.specs.Asked.{AsksFor};
 ghost use Rattle.o2_store.specs.Frames.{IsBacked, KeepsDevice};
 ghost use Rattle.o2_store.specs.Shelf.{Pictures, KeepsAll, AreClean, SameTables, place_of, entry, entry_of, rounded, HasAll, IsFull};
-ghost use Rattle.o2_store.specs.Leaving.{WritesOut, Evicts, TakesVictim};
+ghost use Rattle.o2_store.specs.Leaving.{WritesOut, Evicts, LeaveFor, TakesVictim, lacking};
 ghost use Rattle.o2_store.specs.Loads.{swap_load, live_load};
 ghost use Rattle.o2_store.specs.Needs.{has, all_need, named_in, all_wanted};
 ghost use Rattle.o2_store.specs.Pictures.{picture, HasPicture};
@@ -54,6 +55,10 @@ impl Store {
         ensures none { (k : ℕ) → place_of self.old k ≡ None → place_of self.new k ≡ None }
         ensures evicts { Evicts self.old self.new }
         ensures victim { result ≡ Brought.Here → TakesVictim self.old self.new }
+        ensures leave { (len : ℕ) → self.old.places.size < used self.old.places.ranges + len
+            → LeaveFor self.old self.new len }
+        ensures unasked { S.asked swap.new ≡ S.asked swap.old }
+        ensures piles { (k : ℕ) → k < length self.old.entries → place_of self.old k ≡ None → blocks_of self.new.swap k ≡ blocks_of self.old.swap k }
         ensures fewer { result ≡ Brought.Here → length self.new.places.ranges < length self.old.places.ranges }
         ensures stays { (result ≡ Brought.Here → ⊥) → self.new.places ≡ self.old.places }
         ensures no_room { result ≡ Brought.NoRoom → (k : ℕ) → IsSome (place_of self.new k) → (entry self.new k).attr.lock ≡ 0 → IsKept self.new.keys k }
@@ -80,6 +85,9 @@ impl Store {
         ensures locked { (k : ℕ) → 0 < (entry self.old k).attr.lock → place_of self.new k ≡ place_of self.old k }
         ensures none { (k : ℕ) → place_of self.old k ≡ None → place_of self.new k ≡ None }
         ensures evicts { Evicts self.old self.new }
+        ensures leave { LeaveFor self.old self.new len }
+        ensures unasked { S.asked swap.new ≡ S.asked swap.old }
+        ensures piles { (k : ℕ) → k < length self.old.entries → place_of self.old k ≡ None → blocks_of self.new.swap k ≡ blocks_of self.old.swap k }
         ensures enough { used self.old.places.ranges + len ≤ self.old.places.size → self.new ≡ self.old }
         ensures idle { used self.old.places.ranges + len ≤ self.old.places.size → swap.new ≡ swap.old }
         ensures room { result ≡ Brought.Here → used self.new.places.ranges + len ≤ self.new.places.size }
@@ -127,6 +135,9 @@ impl Store {
         ensures out { (result ≡ Brought.Here → ⊥) → place_of self.new key ≡ None }
         ensures none { (k : ℕ) → k ≢ key → place_of self.old k ≡ None → place_of self.new k ≡ None }
         ensures written { WritesOut self.old self.new }
+        ensures leave { LeaveFor self.old self.new (lacking self.new key) }
+        ensures asks { place_of self.old key ≡ None
+            → AsksFor (S.known swap.new) (blocks_of self.old.swap key) (S.asked swap.old) (S.asked swap.new) (result ≡ Brought.Here) }
         ensures kept { (k : ℕ) → has self.old.keys k ≡ true → IsSome (place_of self.old k) → IsSome (place_of self.new k) }
         ensures still { used self.old.places.ranges + rounded (entry self.old key).size ≤ self.old.places.size → (k : ℕ) → IsSome (place_of self.old k) → IsSome (place_of self.new k) }
         ensures full { result ≡ Brought.SwapFull → IsFull self.new × (self.new.places.size < used self.new.places.ranges + rounded (entry self.old key).size) }
@@ -174,6 +185,9 @@ impl Store {
         ensures others { (k : ℕ) → IsSome (place_of self.old k) → IsSome (place_of self.new k) }
         ensures alone { (at : ℕ) → IsFree self.old.places.size self.old.places.ranges at len
             → (k : ℕ) → k ≢ key → place_of self.new k ≡ place_of self.old k }
+        ensures takes { used self.new.places.ranges + lacking self.new key
+            ≡ used self.old.places.ranges + rounded (entry self.old key).size }
+        ensures asks { AsksFor (S.known swap.new) (blocks_of self.old.swap key) (S.asked swap.old) (S.asked swap.new) (result ≡ Brought.Here) }
         ensures never { (result ≡ Brought.NoRoom → ⊥) × (result ≡ Brought.Stale → ⊥) × (result ≡ Brought.SwapFull → ⊥) }
         ensures idle { NoneTaken self.old.swap → IsIdle self.new swap.old swap.new }
     {
@@ -184,9 +198,9 @@ impl Store {
     }
 
     /// Brings a segment into memory together with those of `keep` and the locked ones. Gaps are closed before anything is
-    /// evicted: where enough bytes are in no range, nothing leaves the memory. Whatever the answer, each segment keeps its
-    /// bytes, and one of `keep` or a locked one that is in memory stays there. No other segment comes in, and where this one
-    /// is in memory already, nothing changes.
+    /// evicted: where enough bytes are in no range, nothing leaves the memory, and else no more than must. Whatever the
+    /// answer, each segment keeps its bytes, and one of `keep` or a locked one that is in memory stays there. No other segment
+    /// comes in, and where this one is in memory already, nothing changes.
     pub fn bring<S: SwapDevice>(
         &mut self,
         id: SegId,
@@ -214,6 +228,11 @@ impl Store {
         ensures out { (result ≡ Brought.Here → ⊥) → place_of self.old id.key ≡ None → place_of self.new id.key ≡ None }
         ensures none { (k : ℕ) → k ≢ id.key → place_of self.old k ≡ None → place_of self.new k ≡ None }
         ensures written { WritesOut self.old self.new }
+        // No segment leaves that could have stayed.
+        ensures leave { LeaveFor self.old self.new (lacking self.new id.key) }
+        // Each of its blocks that the device knows is read once, and no other.
+        ensures asks { place_of self.old id.key ≡ None
+            → AsksFor (S.known swap.new) (blocks_of self.old.swap id.key) (S.asked swap.old) (S.asked swap.new) (result ≡ Brought.Here) }
 
         ensures here { result ≡ Brought.Here → IsSome (place_of self.new id.key) }
         ensures stale { result ≡ Brought.Stale → entry_of self.old id ≡ None }

@@ -5,7 +5,7 @@ ghost use Rattle.o2_outer.specs.Answers.{HasCause};
 ghost use Rattle.o2_place.specs.Layout.{Changes, used, len_of};
 ghost use Rattle.o2_swapmap.specs.Piles.{blocks_of, all_of, free, OnlyOf};
 ghost use Rattle.o2_store.specs.Frames.{KeepsDevice};
-ghost use Rattle.o2_store.specs.Leaving.{IsWrittenOut, Evicts};
+ghost use Rattle.o2_store.specs.Leaving.{IsWrittenOut, Evicts, LeaveFor};
 ghost use Rattle.o2_store.specs.Loads.{swap_load};
 ghost use Rattle.o2_store.specs.Shelf.{Pictures, KeepsAll, AreClean, place_of, entry_of, entry, rounded, blocks_for, stored_byte, out_byte, IsOther, IsFull, IsSaved, SameTables};
 
@@ -45,6 +45,7 @@ impl Store {
         ensures done { result ≡ true → self.new.entries ≡ slice_set self.old.entries key (Some (record (entry self.old key) { kept = kept; image = None })) }
         ensures map { all_of self.new.swap ≡ all_of self.old.swap }
         ensures enough { result ≡ true → length (blocks_of self.new.swap key) ≡ blocks_for kept }
+        ensures piles { (k : ℕ) → k < length self.old.entries → k ≢ key → blocks_of self.new.swap k ≡ blocks_of self.old.swap k }
         ensures others { (k : ℕ) → k ≢ key → slot_at self.new.entries k ≡ slot_at self.old.entries k }
         ensures full { result ≡ false → (length (free self.old.swap) < blocks_for kept - length (blocks_of self.old.swap key)) × (self.new ≡ self.old) }
     {
@@ -75,6 +76,7 @@ impl Store {
         requires device { all_of self.now.swap ≤ S.blocks swap.old }
         ensures device { (S.blocks swap.new ≡ S.blocks swap.old) × (IsTrue (S.told swap.new) → IsTrue (S.told swap.old)) }
         ensures others { IsTrue (S.told swap.new) → (b : ℕ) → IsOther self.now.swap key b → S.block swap.new b ≡ S.block swap.old b }
+        ensures unasked { S.asked swap.new ≡ S.asked swap.old }
         ensures written { IsTrue (S.told swap.new) → result ≡ Dev.Done → (j : ℕ) → j < kept → stored_byte self.now.swap (S.block swap.new) key j ≡ slice_index self.now.memory (at + j) }
         ensures cause { HasCause (S.faults swap.old) (S.faults swap.new) result }
     {
@@ -98,6 +100,8 @@ impl Store {
         ensures saved { IsTrue (S.told swap.new) → result ≡ Brought.Here → (pic : Pictures) (j : ℕ) → j < (entry self.old key).size → out_byte self.new pic (S.block swap.new) key j ≡ slice_index self.new.memory (at + j) }
         ensures others { (k : ℕ) → k ≢ key → slot_at self.new.entries k ≡ slot_at self.old.entries k }
         ensures written { result ≡ Brought.Here → IsWrittenOut self.old self.new key }
+        ensures unasked { S.asked swap.new ≡ S.asked swap.old }
+        ensures piles { (k : ℕ) → k < length self.old.entries → k ≢ key → blocks_of self.new.swap k ≡ blocks_of self.old.swap k }
         ensures full { result ≡ Brought.SwapFull → IsFull self.new }
         ensures lacks { result ≡ Brought.SwapFull → (self.new ≡ self.old) × (swap.new ≡ swap.old)
             × (length (free self.old.swap) < blocks_for (entry self.old key).size - length (blocks_of self.old.swap key)) }
@@ -124,6 +128,7 @@ impl Store {
         ensures tables { SameTables self.old self.new }
         ensures places { Changes self.old.places self.new.places key None }
         ensures used { used self.new.places.ranges + len_of (place_of self.old key) ≡ used self.old.places.ranges }
+        ensures frees { used self.new.places.ranges + rounded (entry self.old key).size ≡ used self.old.places.ranges }
         ensures fewer { length self.new.places.ranges + 1 ≡ length self.old.places.ranges }
         ensures shelf { self.new ≡ record self.old { places = self.new.places; turns = self.new.turns } }
     {
@@ -159,6 +164,10 @@ impl Store {
         ensures keys { (self.new.keys ≡ self.old.keys) × (self.new.places.size ≡ self.old.places.size) }
         ensures stays { (result ≡ Brought.Here → ⊥) → self.new.places ≡ self.old.places }
         ensures evicts { Evicts self.old self.new }
+        ensures leave { (len : ℕ) → self.old.places.size < used self.old.places.ranges + len
+            → LeaveFor self.old self.new len }
+        ensures unasked { S.asked swap.new ≡ S.asked swap.old }
+        ensures piles { (k : ℕ) → k < length self.old.entries → k ≢ key → blocks_of self.new.swap k ≡ blocks_of self.old.swap k }
         ensures dropped { (entry self.old key).attr.clean ≡ true → (result ≡ Brought.Here) × (swap.new ≡ swap.old)
             × (self.new ≡ record self.old { places = self.new.places; turns = self.new.turns }) }
         ensures full { result ≡ Brought.SwapFull → IsFull self.new }
@@ -198,6 +207,12 @@ impl Store {
         ensures others { (k : ℕ) → k ≢ id.key → place_of self.new k ≡ place_of self.old k }
 
         ensures evicts { Evicts self.old self.new }
+        // Where so many bytes have no room, it leaves for them.
+        ensures leave { (len : ℕ) → self.old.places.size < used self.old.places.ranges + len
+            → LeaveFor self.old self.new len }
+        // No block is read, and those of other segments stay theirs.
+        ensures unasked { S.asked swap.new ≡ S.asked swap.old }
+        ensures piles { (k : ℕ) → k < length self.old.entries → k ≢ id.key → blocks_of self.new.swap k ≡ blocks_of self.old.swap k }
         ensures stays { (result ≡ Brought.Here → ⊥) → self.new.places ≡ self.old.places }
         ensures dropped { IsSome (entry_of self.old id) → (entry self.old id.key).attr.clean ≡ true
             → (result ≡ Brought.Here) × (swap.new ≡ swap.old)

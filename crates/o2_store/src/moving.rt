@@ -4,8 +4,10 @@ ghost use Rattle.o2_compact.specs.Parts.{SlideBehind, StayInFront};
 ghost use Rattle.o2_entries.specs.Tables.{slot_at};
 ghost use Rattle.o2_outer.specs.Answers.{HasCause};
 ghost use Rattle.o2_place.specs.Layout.{Changes, IsFree, used};
-ghost use Rattle.o2_swapmap.specs.Piles.{all_of};
+ghost use Rattle.o2_swapmap.specs.Piles.{all_of, blocks_of};
+ghost use Rattle.o2_store.specs.Asked.{AsksFor};
 ghost use Rattle.o2_store.specs.Frames.{KeepsDevice};
+ghost use Rattle.o2_store.specs.Leaving.{lacking};
 ghost use Rattle.o2_store.specs.Pictures.{picture, HasPicture};
 ghost use Rattle.o2_store.specs.Shelf.{Pictures, KeepsAll, AreClean, place_of, entry, rounded, out_byte, IsMoved, Tells, HasAll, SameTables};
 ghost use Rattle.o2_store.specs.Idle.{NoneTaken, IsIdle};
@@ -66,6 +68,7 @@ impl Store {
         ensures same { IsTrue (S.told swap.new) → (b : ℕ) → S.block swap.new b ≡ S.block swap.old b }
         ensures outside { (i : ℕ) → (i < at) ⊎ (at + (entry self.old key).size ≤ i) → slice_index self.new.memory i ≡ slice_index self.old.memory i }
         ensures read { Tells (S.told swap.new) (entry self.old key).image → result ≡ Dev.Done → (j : ℕ) → j < (entry self.old key).size → slice_index self.new.memory (at + j) ≡ out_byte self.old (picture images.now) (S.block swap.old) key j }
+        ensures asks { AsksFor (S.known swap.new) (blocks_of self.old.swap key) (S.asked swap.old) (S.asked swap.new) (result ≡ Dev.Done) }
         ensures cause { HasCause (S.faults swap.old) (S.faults swap.new) result }
         ensures idle { NoneTaken self.old.swap → swap.new ≡ swap.old }
     {
@@ -90,6 +93,7 @@ impl Store {
         ensures keeps { (told : Bool) (pic : Pictures) (block : ℕ → List ℕ) → (IsTrue told → (j : ℕ) → j < (entry self.old key).size → slice_index self.old.memory (at + j) ≡ out_byte self.old pic block key j) → KeepsAll told pic self.old block self.new block }
         ensures clean { (pic : Pictures) (block : ℕ → List ℕ) → (IsSome (entry self.old key).image → (j : ℕ) → j < (entry self.old key).size → slice_index self.old.memory (at + j) ≡ out_byte self.old pic block key j) → AreClean self.old pic → AreClean self.new pic }
         ensures places { Changes self.old.places self.new.places key (Some (at, rounded (entry self.old key).size)) }
+        ensures takes { used self.new.places.ranges ≡ used self.old.places.ranges + rounded (entry self.old key).size }
         ensures shelf { self.new ≡ record self.old { places = self.new.places; turns = self.new.turns } }
     {
         self.law();
@@ -140,6 +144,9 @@ impl Store {
         ensures others { (k : ℕ) → IsSome (place_of self.old k) → IsSome (place_of self.new k) }
         ensures alone { (at : ℕ) → IsFree self.old.places.size self.old.places.ranges at len
             → (k : ℕ) → k ≢ key → place_of self.new k ≡ place_of self.old k }
+        ensures takes { used self.new.places.ranges + lacking self.new key
+            ≡ used self.old.places.ranges + rounded (entry self.old key).size }
+        ensures asks { AsksFor (S.known swap.new) (blocks_of self.old.swap key) (S.asked swap.old) (S.asked swap.new) (result ≡ true) }
         ensures idle { NoneTaken self.old.swap → IsIdle self.new swap.old swap.new }
     {
         self.law();

@@ -2,12 +2,14 @@
 ghost use Rattle.std.specs.Prelude.{◌≡◌, ◌≢◌, ℕ, ◌+◌, ◌<◌, ◌≤◌, ◌↔◌, None, IsSome, IsTrue, IfSome, true, false};
 ghost use Rattle.std.specs.Option.{IfNone};
 ghost use Rattle.o2_place.specs.Layout.{IsFree, IsLowestFree, used};
+ghost use Rattle.o2_store.specs.Asked.{AsksFor};
 ghost use Rattle.o2_store.specs.Frames.{IsBacked, KeepsDevice};
-ghost use Rattle.o2_store.specs.Leaving.{MayLeave};
+ghost use Rattle.o2_store.specs.Gaps.{IsGap};
+ghost use Rattle.o2_store.specs.Leaving.{MayLeave, lacking};
 ghost use Rattle.o2_store.specs.Needs.{all_wanted};
 ghost use Rattle.o2_store.specs.Pictures.{picture, HasPicture};
 ghost use Rattle.o2_store.specs.Shelf.{AreClean, HasAll, KeepsAll, entry, entry_of, place_of, rounded};
-ghost use Rattle.o2_swapmap.specs.Piles.{all_of};
+ghost use Rattle.o2_swapmap.specs.Piles.{all_of, blocks_of};
 ghost use Rattle.o2_store.specs.Idle.{NoneTaken, IsIdle};
 
 use crate::brought::Brought;
@@ -42,8 +44,10 @@ impl Store {
     /// The lowest place in memory at which a live segment would fit, and none exactly where no gap is long enough.
     pub fn gap_for(&self, id: SegId) -> Option<u32>
         requires { IsSome (entry_of self.now id) }
-        ensures { IsLowestFree self.now.places (rounded (entry self.now id.key).size) result }
+        ensures lowest { IsLowestFree self.now.places (rounded (entry self.now id.key).size) result }
+        ensures none { IfNone result ((start : ℕ) → IsGap self.now start (rounded (entry self.now id.key).size) → ⊥) }
     {
+        self.places.law();
         self.places.fit(self.rounded_size(id.key))
     }
 
@@ -88,6 +92,10 @@ impl Store {
             (result ≡ Brought.SwapFault) }
         ensures map { all_of self.new.swap ≡ all_of self.old.swap }
         ensures alone { (k : ℕ) → k ≢ id.key → place_of self.new k ≡ place_of self.old k }
+        ensures takes { used self.new.places.ranges + lacking self.new id.key
+            ≡ used self.old.places.ranges + rounded (entry self.old id.key).size }
+        // Each of its blocks that the device knows is read once, and no other.
+        ensures asks { AsksFor (S.known swap.new) (blocks_of self.old.swap id.key) (S.asked swap.old) (S.asked swap.new) (result ≡ Brought.Here) }
 
         ensures here { result ≡ Brought.Here → IsSome (place_of self.new id.key) }
         ensures out { (result ≡ Brought.Here → ⊥) → place_of self.new id.key ≡ None }

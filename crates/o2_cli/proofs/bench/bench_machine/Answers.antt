@@ -1,7 +1,8 @@
 use Rattle.std.proofs.Common.{ap, inl, inr, refl}
 use Rattle.std.specs.Prelude.{Ok, Err}
-use Rattle.o2_outer.specs.Texts.{Rose}
+use Rattle.o2_run.specs.Lined.{LastPutFailed}
 use Rattle.o2_run.proofs.Reached.{rose_since}
+use Rattle.o2_run.proofs.StopLines.{failed_since}
 use Rattle.o2_world.specs.World.{Setting}
 use Rattle.o2_machine.specs.Lasts.{put_of, stopped_of}
 use Rattle.o2_machine.specs.StandsFor.{StandsFor}
@@ -28,7 +29,7 @@ returns-in-Err g c = record {
       let s = session in
       let begun = b.begins in
       faulted_bench s _ _ _ _ _ _ _ _ _ _ (λ (t : Setting). StandsFor c.run_unseen.new.machine (g.S.SwapDevice.blocks c.run_unseen.new.swap) (g.S.SwapDevice.block c.run_unseen.new.swap) t)
-      _ (rose_since _ _ _ b.count) c.args.count _ _ c.in-Err.why _ c.from.ensures (λ input left.
+      _ (failed_since g.R.Sink.puts g.R.Sink.faults start c.args.report.now c.run_unseen.new.report b.count) c.args.count _ _ c.in-Err.why _ c.from.ensures (λ input left.
       let w = first_world s.linked s.conf input begun.built in
       record {
         start = start_of s input begun.built;
@@ -54,7 +55,7 @@ returns-in-Done g c = record {
       let s = session in
       let begun = b.begins in
       bench_done s (g.S.SwapDevice.blocks c.args.swap.now) _ _ _ _
-      (Rose (g.R.Sink.faults c.args.report.now) (g.R.Sink.faults c.run_unseen.new.report)) _ _ _ (put_of c.run_unseen.new.machine.last)
+      (LastPutFailed g.R.Sink.puts g.R.Sink.faults c.args.report.now c.run_unseen.new.report) _ _ _ (put_of c.run_unseen.new.machine.last)
       (λ (t : Setting). StandsFor c.run_unseen.new.machine (g.S.SwapDevice.blocks c.run_unseen.new.swap)
       (g.S.SwapDevice.block c.run_unseen.new.swap) t)
       (Unit {0}) c.args.count _ _ _ _ c.put_line.ensures.puts (λ input left.
@@ -86,7 +87,7 @@ returns-in-Failed g c = record {
             let s = session in
             let begun = b.begins in
             bench_cut s (g.S.SwapDevice.blocks c.args.swap.now) _ _ _ _
-            (Rose (g.R.Sink.faults c.args.report.now) (g.R.Sink.faults c.run_unseen.new.report)) _ _ _ (put_of c.run_unseen.new.machine.last)
+            (LastPutFailed g.R.Sink.puts g.R.Sink.faults c.args.report.now c.run_unseen.new.report) _ _ _ (put_of c.run_unseen.new.machine.last)
             (λ (t : Setting). StandsFor c.run_unseen.new.machine (g.S.SwapDevice.blocks c.run_unseen.new.swap)
             (g.S.SwapDevice.block c.run_unseen.new.swap) t)
             (Unit {0}) c.args.count _ _ _ _ c.put_line.ensures.puts (λ input left.

@@ -1,8 +1,8 @@
 use Rattle.std.proofs.Common.{ℕ, ◌∙◌, ap, inr, min, refl, subst, sym}
 use Rattle.o2_image.specs.ImageList.{ImageList}
-use Rattle.o2_outer.specs.Texts.{Rose}
-use Rattle.o2_store.specs.Pictures.{picture}
+use Rattle.o2_run.specs.Lined.{LastPutFailed}
 use Rattle.o2_run.proofs.Reached.{rose_since}
+use Rattle.o2_run.proofs.StopLines.{failed_since}
 use Rattle.o2_machine.specs.Begins.{first_world, setting_of}
 use Rattle.o2_machine.specs.Lasts.{put_of, stopped_of}
 use Rattle.o2_machine.specs.StandsFor.{StandsFor}
@@ -29,12 +29,13 @@ returns-then-is_dumped g c = record {
             let begun = b.begins in
             let same = c.run_unseen-ended.ensures.swap_blocks in
             with_image s begun.built begun.starts (g.S.SwapDevice.blocks c.args.swap.now) _ _ _ _ _ _
-            (Rose (g.R.Sink.faults c.args.report.now) (g.R.Sink.faults c.run_unseen-ended.new.report)) _ (rose_since _ _ _ b.count) _ _ _ _ _
+            (LastPutFailed g.R.Sink.puts g.R.Sink.faults c.args.report.now c.run_unseen-ended.new.report) _
+            (failed_since g.R.Sink.puts g.R.Sink.faults start c.args.report.now c.run_unseen-ended.new.report b.count) _ _ _ _ _
             (b.puts begun.built begun.starts) (put_of c.run_unseen-ended.new.machine.last)
             (StandsFor c.run_unseen-ended.new.machine (g.S.SwapDevice.blocks c.run_unseen-ended.new.swap) (g.S.SwapDevice.block c.run_unseen-ended.new.swap) (setting_of s.conf))
             c.run_unseen-ended.result c.put_image-wrote.result c.status_of_run-whole.result _ c.status_of_run-whole.ensures c.status_of_image.ensures (ap (is_dumped c.run_unseen-ended.result) (sym c.line_put.ensures) ∙ sym c.is_dumped.ensures ∙ c.if-is_dumped.true) (λ v st.
-            subst (λ (n : ℕ). GainsByWrote (picture s.linked.images) n (setting_of s.conf) v (g.C.Sink.taken c.args.console.now) (g.C.Sink.taken c.put_image-wrote.new.console) c.put_image-wrote.result) same
-            (subst (λ (l : ImageList). GainsByWrote (picture l) (g.S.SwapDevice.blocks c.run_unseen-ended.new.swap) (setting_of s.conf) v
+            subst (λ (n : ℕ). GainsByWrote s.linked.images n (setting_of s.conf) v (g.C.Sink.taken c.args.console.now) (g.C.Sink.taken c.put_image-wrote.new.console) c.put_image-wrote.result) same
+            (subst (λ (l : ImageList). GainsByWrote l (g.S.SwapDevice.blocks c.run_unseen-ended.new.swap) (setting_of s.conf) v
             (g.C.Sink.taken c.args.console.now) (g.C.Sink.taken c.put_image-wrote.new.console) c.put_image-wrote.result)
             (c.run_unseen-ended.ensures.images ∙ begun.images)
             (c.put_image-wrote.ensures.text tells (setting_of s.conf) v (blocks ∙ ap (min s.conf.swap) (sym same)) st))) (λ input left.
@@ -69,7 +70,8 @@ returns-else-is_dumped g c = record {
       let s = session in
       let begun = b.begins in
       without_image s begun.built begun.starts (g.S.SwapDevice.blocks c.args.swap.now) _ _ _ _ _ _
-      (Rose (g.R.Sink.faults c.args.report.now) (g.R.Sink.faults c.run_unseen-ended.new.report)) _ (rose_since _ _ _ b.count) _ _ _ _ _
+      (LastPutFailed g.R.Sink.puts g.R.Sink.faults c.args.report.now c.run_unseen-ended.new.report) _
+      (failed_since g.R.Sink.puts g.R.Sink.faults start c.args.report.now c.run_unseen-ended.new.report b.count) _ _ _ _ _
       (b.puts begun.built begun.starts) (put_of c.run_unseen-ended.new.machine.last)
       (StandsFor c.run_unseen-ended.new.machine (g.S.SwapDevice.blocks c.run_unseen-ended.new.swap) (g.S.SwapDevice.block c.run_unseen-ended.new.swap) (setting_of s.conf))
       (record { same = refl; none_put = refl }) c.run_unseen-ended.result _ c.status_of_run-whole.ensures (ap (is_dumped c.run_unseen-ended.result) (sym c.line_put.ensures) ∙ sym c.is_dumped.ensures ∙ c.if-is_dumped.false) (λ input left.

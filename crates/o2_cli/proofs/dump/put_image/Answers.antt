@@ -1,7 +1,8 @@
 use Rattle.std.proofs.Common.{◌≤◌, [], ap, ◌∙◌, arith, refl, sym, subst}
 use Rattle.o2_regions.specs.Maps.{Maps}
 use Rattle.o2_store.specs.Idle.{NoneTaken}
-use Rattle.o2_store.specs.Shelf.{Shelf}
+use Rattle.o2_store.specs.Pictures.{HasPicture}
+use Rattle.o2_store.specs.Shelf.{HasAll, Shelf}
 use Rattle.o2_segbus.specs.Settled.{IsSettled}
 use Rattle.o2_service.specs.Told.{IsHeldWell}
 use Rattle.o2_swapmap.specs.Piles.{all_of}
@@ -30,11 +31,14 @@ write-requires-clause-device g c =
 
 pub returns-clause-text : goal.returns-clause-text
 returns-clause-text g c = λ tells s w is st.
+    let same = ap (λ (x : Shelf). all_of x.swap) c.store-store.ensures in
     gains_image c.args.machine.now (g.S.SwapDevice.blocks c.args.swap.now) (g.S.SwapDevice.block c.args.swap.now) s w st _ _ _ _ _ _
     c.lawful.ensures c.store-store.ensures c.regions-regions.ensures (c.as_slice.ensures.value ∙ c.fill.ensures) is
-    (c.steps.ensures.world _ _ s w st) (c.console_bytes.ensures.world _ _ s w st) _ _ c.write.result (c.write.ensures.text tells)
-    (λ done. let same = ap (λ (x : Shelf). all_of x.swap) c.store-store.ensures in
-    c.write.ensures.read_back
+    (c.steps.ensures.world _ _ s w st) (c.console_bytes.ensures.world _ _ s w st) _ _ c.write.result
+    (c.write.ensures.apart (omega (arith, same, is, st.set.blocks)) (g.S.SwapDevice.block c.args.swap.now) _ refl)
+    (subst (λ (x : Shelf). HasAll (HasPicture c.args.machine.now.space.images) x) (sym c.store-store.ensures) (c.requires.device.together.ready (λ n. [])).pictures)
+    (c.write.ensures.text tells)
+    (λ done. c.write.ensures.read_back
     (subst (λ (x : Shelf). IsHeldWell x c.regions-regions.result.now) (sym c.store-store.ensures)
     (subst (λ (m : Maps). IsHeldWell c.args.machine.now.space.store m) (sym c.regions-regions.ensures) (c.requires.device.together.ready (λ n. [])).held))
     (omega (arith, same, is, st.set.blocks)) tells done _ refl)

@@ -6,7 +6,7 @@ use Rattle.o2_machine.specs.Lasts.{machine_swaps, put_of, stopped_of}
 use Rattle.o2_machine.specs.StandsFor.{StandsFor}
 use Rattle.o2_machine.specs.Begins.{setting_of, first_world}
 use Rattle.o2_cli.proofs.Ample.{fits_from}
-use Rattle.o2_run.proofs.StopLines.{texts_of_lined}
+use Rattle.o2_run.proofs.StopLines.{failed_since, texts_of_lined}
 use Rattle.o2_cli.proofs.Runs.{faulted_run, has_started, nothing_yet, stands_over, start_of}
 use Rattle.o2_cli.proofs.Sessions.{ran}
 use Rattle.o2_words.specs.declared.words.Verb.TheVariants.{Run}
@@ -46,7 +46,8 @@ returns-in-Err g c = record {
       ran Run session _ _ _ _ (Err c.in-Err.why) _ c.from.ensures _ _ (c.in-Err.ensures.cause (ap stopped_of b.begins.fresh)) (either _ _ _ (rose_since _ _ _ b.count)) (λ rose. rose)
       c.run.ensures.swap_blocks c.run.ensures.swap_told c.run.ensures.goes_on
       (λ tells text may.
-      faulted_run _ _ _ _ _ _ _ _ _ _ _ _ _ _ (λ (s : Setting). StandsFor c.run.new.machine (g.S.SwapDevice.blocks c.run.new.swap) (g.S.SwapDevice.block c.run.new.swap) s) _ (rose_since _ _ _ b.count) c.in-Err.why _ c.from.ensures (λ input left.
+      faulted_run _ _ _ _ _ _ _ _ _ _ _ _ _ _ (λ (s : Setting). StandsFor c.run.new.machine (g.S.SwapDevice.blocks c.run.new.swap) (g.S.SwapDevice.block c.run.new.swap) s) _
+      (failed_since g.R.Sink.puts g.R.Sink.faults start c.args.report.now c.run.new.report b.count) c.in-Err.why _ c.from.ensures (λ input left.
       let s = session in
       let begun = b.begins in
       let w = first_world s.linked s.conf input begun.built in

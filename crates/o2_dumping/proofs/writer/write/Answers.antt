@@ -22,6 +22,7 @@ returns-in_default g c = record {
       (rw (c.as_slice.ensures, c.head_piece-head.ensures.text) at c.in-Done.ensures.takes))
       refl (c.put_segments.ensures.text told);
   read_back = λ held enough told done. absurd (c.in_default.not-Done done);
+  apart = c.head_piece-head.ensures.apart;
   read = c.put_segments.ensures.read;
   causes = since _ _ _ _ _ _ _ c.in-Done.ensures.count (omega arith) c.put_segments.ensures.causes;
   idle = c.put_segments.ensures.idle;

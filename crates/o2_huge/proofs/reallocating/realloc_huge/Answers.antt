@@ -2,6 +2,7 @@ use Rattle.std.proofs.Common.{◌≡◌, ℕ, true, ap, refl, subst, sym, ◌∙
 use Rattle.o2_huge.specs.Growth.{is_of_run}
 use Rattle.o2_huge.specs.Resized.{run_count}
 use Rattle.o2_huge.proofs.Asking.{huge_none, huge_other}
+use Rattle.o2_huge.proofs.Firsts.{refused_first}
 use Rattle.o2_huge.proofs.Following.{never_stops, refused_row, refused_run}
 use Rattle.o2_huge.proofs.reallocating.realloc_huge.Goals as goal
 
@@ -38,3 +39,14 @@ returns-in-None-clause-stops g c = λ p o known. never_stops _ _ _ _ _ _ (λ e. 
 
 pub returns-in-None-clause-sizes : goal.returns-in-None-clause-sizes
 returns-in-None-clause-sizes g c = refused_run c.args.images.now c.args.keep.now c.args.store.now c.args.regions.now c.requires.caller.order c.requires.backed.clean
+
+pub returns-in-None-run_at-clause-always_no_room : goal.returns-in-None-run_at-clause-always_no_room
+returns-in-None-run_at-clause-always_no_room g c = λ p o known x.
+    (let m = c.args.regions.now in
+    let h = c.in-Some.held in
+    let other = ap (λ (i : ℕ). is_of_run i h) (sym c.index.ensures) ∙ c.in-None-run_at.ensures.none in
+    absurd (refused_first c.args.store.now _ 5 _ (huge_other p o c.args.pid c.args.segs c.args.part c.args.sel c.args.cpu.now m h known.maps (sym c.in-Some.ensures) other) x))
+
+pub returns-in-None-clause-always_no_room : goal.returns-in-None-clause-always_no_room
+returns-in-None-clause-always_no_room g c = λ p o known x.
+    absurd (refused_first c.args.store.now _ 5 _ (huge_none p o c.args.pid c.args.segs c.args.part c.args.sel c.args.cpu.now c.args.regions.now known.maps (sym c.in-None.ensures)) x)

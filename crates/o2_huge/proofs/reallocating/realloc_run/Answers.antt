@@ -8,6 +8,7 @@ use Rattle.o2_huge.specs.Growth.{is_of_run}
 use Rattle.o2_huge.proofs.Asking.{answers_as, asked_run, changes_as, dropped_all, enough_there, fault_known, first_changes, fixed_there, full_known, good_known}
 use Rattle.o2_huge.proofs.Asking.{grants_answer, grants_changes, held_first, inside_there, room_there, run_some, short_there, small_index, some_there, some_wanted}
 use Rattle.o2_huge.proofs.Asking.{wanted_vacant, without_done}
+use Rattle.o2_huge.proofs.Firsts.{each_granted, none_changed, refused_first}
 use Rattle.o2_huge.proofs.Following.{never_stops, refused_row, refused_run, stops_as}
 use Rattle.o2_huge.proofs.reallocating.realloc_run.Goals as goal
 
@@ -165,3 +166,46 @@ returns-else-is_full-clause-stops g c = λ p o known.
     let more = c.saturating_sub-more.ensures ∙ ap (λ (y : ℕ). y - n) c.wanted_of.ensures in
     let ruled = good_known s m p o known pid c.args.segs c.args.part sel c.args.cpu.now n run h c.requires.run asked c.saturating_sub-more.result more c.in-None.ensures (c.is_full.ensures.few c.if-is_full.false) in
     stops_as s c.args.keep.now _ _ _ _ _ _ _ _ (λ says x. first_changes s _ _ _ says ruled x) (λ e. e) (λ e. e) (λ i. i) c.resize_run.ensures.stops)
+
+pub returns-in-Some-clause-always_no_room : goal.returns-in-Some-clause-always_no_room
+returns-in-Some-clause-always_no_room g c = λ p o known x.
+    (let s = c.args.store.now in
+    let m = c.args.regions.now in
+    let pid = c.args.pid in
+    let sel = c.args.sel in
+    let run = c.args.run in
+    let h = c.args.held in
+    let n = c.members_of-there.result in
+    let found = c.members_of-there.ensures in
+    let asked = asked_run s m pid sel n run h c.requires.run c.law.ensures c.requires.caller c.requires.held c.requires.first found.few found.members found.last in
+    absurd (refused_first s _ c.in-Some.error _ (fault_known s m p o known pid c.args.segs c.args.part sel c.args.cpu.now n run h c.requires.run asked c.in-Some.error c.in-Some.ensures) x))
+
+pub returns-then-is_full-clause-always_no_room : goal.returns-then-is_full-clause-always_no_room
+returns-then-is_full-clause-always_no_room g c = λ p o known x.
+    (let s = c.args.store.now in
+    let m = c.args.regions.now in
+    let pid = c.args.pid in
+    let sel = c.args.sel in
+    let run = c.args.run in
+    let h = c.args.held in
+    let n = c.members_of-there.result in
+    let found = c.members_of-there.ensures in
+    let asked = asked_run s m pid sel n run h c.requires.run c.law.ensures c.requires.caller c.requires.held c.requires.first found.few found.members found.last in
+    let more = c.saturating_sub-more.ensures ∙ ap (λ (y : ℕ). y - n) c.wanted_of.ensures in
+    absurd (refused_first s _ 8 _
+    (full_known s m p o known pid c.args.segs c.args.part sel c.args.cpu.now n run h c.requires.run asked c.saturating_sub-more.result more c.in-None.ensures (c.is_full.ensures.cause c.if-is_full.true)) x))
+
+pub returns-else-is_full-clause-always_no_room : goal.returns-else-is_full-clause-always_no_room
+returns-else-is_full-clause-always_no_room g c = λ p o known x.
+    (let s = c.args.store.now in
+    let m = c.args.regions.now in
+    let pid = c.args.pid in
+    let sel = c.args.sel in
+    let run = c.args.run in
+    let h = c.args.held in
+    let n = c.members_of-there.result in
+    let found = c.members_of-there.ensures in
+    let asked = asked_run s m pid sel n run h c.requires.run c.law.ensures c.requires.caller c.requires.held c.requires.first found.few found.members found.last in
+    let more = c.saturating_sub-more.ensures ∙ ap (λ (y : ℕ). y - n) c.wanted_of.ensures in
+    let ruled = good_known s m p o known pid c.args.segs c.args.part sel c.args.cpu.now n run h c.requires.run asked c.saturating_sub-more.result more c.in-None.ensures (c.is_full.ensures.few c.if-is_full.false) in
+    c.resize_run.ensures.always_no_room (each_granted s _ 0 _ _ _ ruled (none_changed s m pid run.first run.count n c.args.segs c.args.part) x))

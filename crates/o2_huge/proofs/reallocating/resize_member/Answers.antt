@@ -1,9 +1,11 @@
-use Rattle.std.proofs.Common.{◌≡◌, [], ◌∷◌, inl, inr, ap, refl, subst, sym, ◌∙◌}
+use Rattle.std.proofs.Common.{◌≡◌, ◌<◌, ℕ, List, [], ◌∷◌, Some, inl, inr, ap, refl, subst, sym, ◌∙◌}
 use Rattle.o2_regions.specs.Maps.{held_at}
 use Rattle.o2_store.proofs.Idling.{idle_or}
 use Rattle.o2_segs.proofs.Limits.{limits_moved, limits_refl, limits_sized}
-use Rattle.o2_segs.proofs.Stops.{not_here, stop_fault, stop_full, stop_room, was_here}
-use Rattle.o2_world.specs.Changes.{Resizes}
+use Rattle.o2_segs.proofs.Stops.{not_here, room_never, room_stops, stop_fault, stop_full, stop_room, was_here}
+use Rattle.o2_store.specs.Sizes.{all_wanted_at}
+use Rattle.o2_world.specs.Changes.{Change, Resizes}
+use Rattle.o2_huge.proofs.Firsts.{none_first}
 use Rattle.o2_huge.specs.Growth.{sized_there}
 use Rattle.o2_huge.specs.Resized.{MatchesSized}
 use Rattle.o2_huge.proofs.Following.{never_stops}
@@ -106,3 +108,40 @@ returns-in-None-stop_of-clause-stops g c =
       all_load = λ e. absurd (cc);
       idle = λ none. elim (idle_or _ s c.resize.new.store _ _ c.resize.ensures.idle none) [ inl i ↦ inl i | inr more ↦ inr (first_sized s h.id bytes _ _ live there more) ];
     }
+
+pub returns-then-has_size-clause-always_no_room : goal.returns-then-has_size-clause-always_no_room
+returns-then-has_size-clause-always_no_room g c = λ x.
+    absurd (none_first c.args.store.now _ _ (ap (sized_there c.args.store.now c.args.size) (sym c.in-Some.ensures.held) ∙ not_sized c.args.store.now c.args.size c.full_size-bytes.result c.in-Some.held c.full_size-bytes.ensures.size (sym c.if-has_size.ensures)) x)
+
+pub returns-in-None-clause-always_no_room : goal.returns-in-None-clause-always_no_room
+returns-in-None-clause-always_no_room g c = λ x. absurd (none_first c.args.store.now _ _ (ap (sized_there c.args.store.now c.args.size) (sym c.in-None.ensures.held)) x)
+
+pub returns-in-Some-stop_of-clause-always_no_room : goal.returns-in-Some-stop_of-clause-always_no_room
+returns-in-Some-stop_of-clause-always_no_room g c = λ x.
+    let s = c.args.store.now in
+    let h = c.in-Some.held in
+    let bytes = c.full_size-bytes.result in
+    let there : sized_there s c.args.size (held_at c.args.regions.now c.args.pid c.args.index) ≡ Resizes h.id.age bytes ∷ [] =
+    ap (sized_there s c.args.size) (sym c.in-Some.ensures.held) ∙ is_sized s c.args.size bytes h c.full_size-bytes.ensures.size (sym c.if-has_size.ensures) in
+    let live = c.requires.order.held.live c.args.pid c.args.index h (sym c.in-Some.ensures.held) in
+    let z : Resizes h.id.age bytes ∷ [] ≡ Resizes x.name x.size ∷ x.rest = sym there ∙ x.change in
+    let age : h.id.age ≡ x.name = cc in
+    let same : bytes ≡ x.size = cc in
+    let y = x.each h.id live age in
+    let lacks = c.resize.ensures.always_no_room y.0 y.1 (subst (λ (n : ℕ). s.places.size < all_wanted_at s h.id.key c.args.keep.now n) (sym same) y.2) in
+    ap Some (room_stops c.resize.result c.in-Some-stop_of.stop c.in-Some-stop_of.ensures lacks)
+
+pub returns-in-None-stop_of-clause-always_no_room : goal.returns-in-None-stop_of-clause-always_no_room
+returns-in-None-stop_of-clause-always_no_room g c = λ x.
+    let s = c.args.store.now in
+    let h = c.in-Some.held in
+    let bytes = c.full_size-bytes.result in
+    let there : sized_there s c.args.size (held_at c.args.regions.now c.args.pid c.args.index) ≡ Resizes h.id.age bytes ∷ [] =
+    ap (sized_there s c.args.size) (sym c.in-Some.ensures.held) ∙ is_sized s c.args.size bytes h c.full_size-bytes.ensures.size (sym c.if-has_size.ensures) in
+    let live = c.requires.order.held.live c.args.pid c.args.index h (sym c.in-Some.ensures.held) in
+    let z : Resizes h.id.age bytes ∷ [] ≡ Resizes x.name x.size ∷ x.rest = sym there ∙ x.change in
+    let age : h.id.age ≡ x.name = cc in
+    let same : bytes ≡ x.size = cc in
+    let y = x.each h.id live age in
+    let lacks = c.resize.ensures.always_no_room y.0 y.1 (subst (λ (n : ℕ). s.places.size < all_wanted_at s h.id.key c.args.keep.now n) (sym same) y.2) in
+    absurd (room_never c.resize.result c.in-None-stop_of.ensures lacks)

@@ -1,4 +1,6 @@
-use Rattle.std.proofs.Common.{◌-◌, Bool, List, inl, inr, Some, ap, cond, refl, subst, sym, ◌∙◌}
+use Rattle.std.proofs.Common.{◌≡◌, ◌-◌, Bool, List, inl, inr, Option, Some, None, ap, cond, refl, subst, sym, ◌∙◌}
+use Rattle.o2_regions.specs.declared.answer.Roomed.{Roomed}
+use Rattle.o2_regions.specs.declared.answer.Roomed.TheVariants.{NoRoom}
 use Rattle.std.proofs.lemmas.Bool.{cond-false}
 use Rattle.o2_regions.specs.Maps.{Maps, held_at}
 use Rattle.o2_huge.specs.Growth.{sized_there}
@@ -11,7 +13,8 @@ use Rattle.o2_world.specs.Changes.{Change, takes}
 use Rattle.o2_world.specs.HugeRulings.{segments_of}
 use Rattle.o2_huge.proofs.Changing.{changed_same, resized_matches, sized_last_is, stopped_matches, takes_behind}
 use Rattle.o2_huge.proofs.Following.{may_have_still, may_make_still, run_held, stops_as}
-use Rattle.o2_huge.proofs.Sizing.{done_is, first_as, never_done, not_done}
+use Rattle.o2_huge.proofs.Firsts.{each_as}
+use Rattle.o2_huge.proofs.Sizing.{done_is, first_as, never_done, not_done, same_stop}
 use Rattle.o2_store.proofs.Framing.{device_for}
 use Rattle.o2_changes.proofs.Framing.{for_then}
 use Rattle.o2_huge.proofs.reallocating.resize_run.Goals as goal
@@ -137,3 +140,28 @@ change_members-requires-clause-may_make g c =
     let n = c.resize_member.new.regions in
     let member = c.resize_member.ensures in
     may_make_still c.args.store.now c.resize_member.new.store m n c.args.pid (segments_of c.args.segs c.args.part - c.args.there) member.rest (ap (λ (x : Maps). x.processes) member.maps.rest) member.goes_on.order c.requires.may_make
+
+pub returns-in-Some-clause-always_no_room : goal.returns-in-Some-clause-always_no_room
+returns-in-Some-clause-always_no_room g c = λ x.
+    let s = c.args.store.now in
+    let m = c.args.regions.now in
+    let pid = c.args.pid in
+    let last = c.last_of-last.result in
+    let size = c.size_of_last-size.result in
+    let there : List Change = sized_there s size (held_at m pid last) in
+    let sized : List Change = sized_last s m pid c.args.run.first c.args.there c.args.segs c.args.part in
+    let same = sized_last_is s m pid c.args.run.first c.args.there c.args.segs c.args.part size last c.size_of_last-size.ensures c.last_of-last.ensures in
+    same_stop c.in-Some.stop NoRoom (c.in-Some.ensures.always_no_room (each_as s sized there _ (sym same) x))
+
+pub returns-in-None-clause-always_no_room : goal.returns-in-None-clause-always_no_room
+returns-in-None-clause-always_no_room g c = λ x.
+    let s = c.args.store.now in
+    let m = c.args.regions.now in
+    let pid = c.args.pid in
+    let last = c.last_of-last.result in
+    let size = c.size_of_last-size.result in
+    let there : List Change = sized_there s size (held_at m pid last) in
+    let sized : List Change = sized_last s m pid c.args.run.first c.args.there c.args.segs c.args.part in
+    let same = sized_last_is s m pid c.args.run.first c.args.there c.args.segs c.args.part size last c.size_of_last-size.ensures c.last_of-last.ensures in
+    let z : ◌≡◌ {A = Option Roomed} None (Some NoRoom) = c.in-None.ensures.always_no_room (each_as s sized there _ (sym same) x) in
+    absurd cc

@@ -1,4 +1,4 @@
-use Rattle.std.proofs.Common.{◌+◌, ◌<◌, inl, inr, ℕ, Option, Some, IsSome, ap, min, refl, sym, subst, ◌∙◌}
+use Rattle.std.proofs.Common.{arith, ◌+◌, ◌<◌, inl, inr, ℕ, Option, Some, IsSome, ap, min, refl, sym, subst, ◌∙◌}
 use Rattle.o2_desc.specs.Bits.{has_bit}
 use Rattle.o2_entries.specs.declared.Attr.{Attr}
 use Rattle.o2_entries.specs.Tables.{slot_at}
@@ -9,7 +9,7 @@ use Rattle.o2_stands.specs.Moves.{moved}
 use Rattle.o2_world.specs.Rulings.{locking_with}
 use Rattle.o2_segs.proofs.Resizing.{refusal_moved, stopped_matches}
 use Rattle.o2_segs.proofs.Rows.{done_answers, refusal_answers}
-use Rattle.o2_segs.proofs.Stops.{error_none, stop_answers, stop_room, was_here, stop_fault}
+use Rattle.o2_segs.proofs.Stops.{denied, error_none, room_never, room_stops, stop_answers, stop_room, was_here, stop_fault}
 use Rattle.o2_store.proofs.Tables.{locked_at}
 use Rattle.o2_world.specs.Changes.{Locks, with_change}
 use Rattle.o2_segs.proofs.Making.{moved_made}
@@ -107,6 +107,28 @@ returns-then-attr-gt0-clause-kept g c = λ k named here. subst (λ (o : Option (
 
 pub returns-in-Some-stop_of-clause-no_room : goal.returns-in-Some-stop_of-clause-no_room
 returns-in-Some-stop_of-clause-no_room g c = λ e. c.bring_in.ensures.no_room (stop_room c.bring_in.result c.in-Some-stop_of.stop c.in-Some-stop_of.ensures e)
+
+pub returns-in-Some-stop_of-clause-absent : goal.returns-in-Some-stop_of-clause-absent
+returns-in-Some-stop_of-clause-absent g c = λ e. c.bring_in.ensures.absent (stop_room c.bring_in.result c.in-Some-stop_of.stop c.in-Some-stop_of.ensures e)
+
+pub returns-in-Some-stop_of-clause-always_no_room : goal.returns-in-Some-stop_of-clause-always_no_room
+returns-in-Some-stop_of-clause-always_no_room g c = λ u z out l. room_stops c.bring_in.result c.in-Some-stop_of.stop c.in-Some-stop_of.ensures (c.bring_in.ensures.always_no_room out l)
+
+pub returns-in-None-stop_of-clause-always_no_room : goal.returns-in-None-stop_of-clause-always_no_room
+returns-in-None-stop_of-clause-always_no_room g c = λ u z out l. absurd (room_never c.bring_in.result c.in-None-stop_of.ensures (c.bring_in.ensures.always_no_room out l))
+
+pub returns-then-attr-gt0-clause-always_no_room : goal.returns-then-attr-gt0-clause-always_no_room
+returns-then-attr-gt0-clause-always_no_room g c = λ u z out l.
+    absurd (let s = c.args.store.now in
+    let at = attr_there (entry_of s c.args.id) c.in-Some.attr (sym c.in-Some.ensures) c.args.id.age (slot_at s.entries c.args.id.key) refl in
+    let some : 0 < (entry s c.args.id.key).attr.lock = subst (λ (a : Attr). 0 < a.lock) at c.if-attr-gt0.true in
+    omega (arith, some, z))
+
+pub returns-then-not-is_discardable-clause-always_no_room : goal.returns-then-not-is_discardable-clause-always_no_room
+returns-then-not-is_discardable-clause-always_no_room g c = λ u z out l. absurd (denied c.refusal.result 5 c.refusal.ensures (omega arith) u)
+
+pub returns-in-None-clause-always_no_room : goal.returns-in-None-clause-always_no_room
+returns-in-None-clause-always_no_room g c = λ u z out l. absurd (denied c.refusal-in-None.result 5 c.refusal-in-None.ensures (omega arith) u)
 
 pub returns-then-not-is_discardable-clause-limits : goal.returns-then-not-is_discardable-clause-limits
 returns-then-not-is_discardable-clause-limits g c = limits_refl c.args.store.now c.args.regions.now

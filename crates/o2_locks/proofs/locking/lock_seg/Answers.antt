@@ -1,12 +1,14 @@
+use Rattle.o2_regions.specs.declared.answer.Roomed.TheVariants.{NoRoom}
 use Rattle.o2_regions.specs.declared.held.Held.{Held}
 use Rattle.o2_store.specs.Needs.{all_wanted}
-use Rattle.o2_store.specs.Shelf.{entry}
-use Rattle.std.proofs.Common.{◌≡◌, ◌<◌, Option, IfSome, sym, subst}
+use Rattle.o2_store.specs.Shelf.{entry, place_of}
+use Rattle.std.proofs.Common.{◌≡◌, ◌<◌, None, Option, IfSome, arith, sym, subst}
 use Rattle.o2_stands.specs.Stands.{Matches}
 use Rattle.o2_segs.specs.Answers.{AnswersRoomed, changes_roomed}
 use Rattle.o2_segs.proofs.Resizing.{refusal_moved}
 use Rattle.o2_segs.proofs.Rows.{at_maps, refusal_answers}
 use Rattle.o2_segs.proofs.Selecting.{named_in}
+use Rattle.o2_segs.proofs.Stops.{denied}
 use Rattle.o2_stands.specs.Knows.{marks_under}
 use Rattle.o2_stands.specs.Moves.{moved}
 use Rattle.o2_world.specs.Changes.{with_all}
@@ -45,6 +47,18 @@ returns-in-Some-clause-stops g c = λ stop.
 pub returns-in-Some-clause-no_room : goal.returns-in-Some-clause-no_room
 returns-in-Some-clause-no_room g c = λ e.
     subst (λ (y : Option Held). IfSome y (λ h. c.args.store.now.places.size < all_wanted c.args.store.now h.id.key c.args.keep.now)) c.in-Some.ensures (c.lock.ensures.no_room e)
+
+pub returns-in-Some-clause-absent : goal.returns-in-Some-clause-absent
+returns-in-Some-clause-absent g c = λ e. subst (λ (y : Option Held). IfSome y (λ h. place_of c.args.store.now h.id.key ≡ None)) c.in-Some.ensures (c.lock.ensures.absent e)
+
+pub returns-in-Some-clause-always_no_room : goal.returns-in-Some-clause-always_no_room
+returns-in-Some-clause-always_no_room g c = λ u.
+    (let s = c.args.store.now in
+    subst (λ (y : Option Held). IfSome y (λ h. (entry s h.id.key).attr.lock ≡ 0 → place_of s h.id.key ≡ None → s.places.size < all_wanted s h.id.key c.args.keep.now → c.lock.result ≡ NoRoom))
+    c.in-Some.ensures (c.lock.ensures.always_no_room u))
+
+pub returns-in-None-clause-always_no_room : goal.returns-in-None-clause-always_no_room
+returns-in-None-clause-always_no_room g c = λ u. absurd (denied c.refusal.result 5 c.refusal.ensures (omega arith) u)
 
 pub returns-in-None-clause-limits : goal.returns-in-None-clause-limits
 returns-in-None-clause-limits g c = limits_refl c.args.store.now c.args.regions.now

@@ -3,7 +3,7 @@ use Rattle.std.proofs.lemmas.Result.{err_from_is_err_and}
 use Rattle.o2_outer.proofs.Inputs.{goes_then, seen_before}
 use Rattle.o2_run.specs.Turn.{stopped_by}
 use Rattle.o2_run.proofs.Reached.{below_with, gains_untold, ran_by, closed_by, rose_since}
-use Rattle.o2_run.proofs.StopLines.{lined_by}
+use Rattle.o2_run.proofs.StopLines.{failed_last, lined_by}
 use Rattle.o2_run.proofs.Sliced.{sliced}
 use Rattle.o2_run.proofs.Answered.{gives, ran_is, end_is, fault_is, ends_with, ends_at, cause_of, either_rose, for_input}
 use Rattle.o2_run.proofs.whole.run.Goals as goal
@@ -83,7 +83,7 @@ returns-in_err-more-clause-texts g c = λ n tells text may s w a b stands input 
     let before = c.steps.invariant.reached n (c.turn.ensures.swap_told tells) text (seen_before text _ _ c.turn.ensures.goes_on may) s w a b stands input to_console to_report in
     let h = sliced _ s w _ _ _ _ _ _ _ _ c.slice-done.result before (c.slice-done.ensures.steps _ _ s _ before.stands) in
     rw (p.1, p.2) (lined_by _ _ _ (g.S.SwapDevice.blocks c.args.swap.now) s w _ _ _ _ _ _ _ _ _ _ _ _ _ _ (length w.lines) c.turn.result _ (fault_is c.turn.result _ (sym c.in_err-more.ensures)) _ c.steps.invariant.swap_blocks h _ _ _
-    (rose_since _ _ _ c.steps.invariant.report_count) (c.turn.ensures.line fresh) (c.turn.ensures.turns fresh tells text may s _ h.stands h.input) (c.turn.ensures.puts fresh tells text may s _ h.stands h.input))
+    (failed_last g.R.Sink.puts g.R.Sink.faults c.args.report.now c.steps.report c.turn.new.report c.steps.invariant.report_count) (c.turn.ensures.line fresh) (c.turn.ensures.turns fresh tells text may s _ h.stands h.input) (c.turn.ensures.puts fresh tells text may s _ h.stands h.input))
 
 pub returns-in_err-more-clause-stopped : goal.returns-in_err-more-clause-stopped
 returns-in_err-more-clause-stopped g c =

@@ -1,4 +1,4 @@
-use Rattle.std.proofs.Common.{◌≡◌, inl, refl, ℕ, Option, Some, None, sym, subst, ◌∙◌}
+use Rattle.std.proofs.Common.{◌≡◌, arith, inl, refl, ℕ, Option, Some, None, sym, subst, ◌∙◌}
 use Rattle.o2_stands.specs.Stands.{Matches}
 use Rattle.o2_regions.specs.Maps.{end_of, first_of, is_taken}
 use Rattle.o2_regions.specs.declared.held.Region.{Region}
@@ -11,6 +11,7 @@ use Rattle.o2_segs.specs.Answers.{AnswersRoomed, changes_roomed}
 use Rattle.o2_segs.proofs.Making.{alloc_refused, alloc_tried, to_none}
 use Rattle.o2_segs.proofs.Resizing.{refusal_moved}
 use Rattle.o2_segs.proofs.Rows.{refusal_answers}
+use Rattle.o2_segs.proofs.Stops.{denied}
 use Rattle.o2_segs.proofs.Limits.{entries_refl, limits_more, limits_refl}
 use Rattle.o2_changes.proofs.Framing.{for_refl}
 use Rattle.o2_segs.proofs.allocating.alloc_seg.Goals as goal
@@ -86,3 +87,12 @@ returns-then-flags-gt-FLAGS-clause-goes_on g c = for_refl c.args.images.now c.ar
 
 pub returns-in-None-clause-goes_on : goal.returns-in-None-clause-goes_on
 returns-in-None-clause-goes_on g c = for_refl c.args.images.now c.args.store.now c.args.regions.now c.requires.order c.requires.backed.clean
+
+pub returns-then-flags-gt-FLAGS-clause-always_no_room : goal.returns-then-flags-gt-FLAGS-clause-always_no_room
+returns-then-flags-gt-FLAGS-clause-always_no_room g c = λ u b w. absurd (denied c.refusal.result 87 c.refusal.ensures (omega arith) u)
+
+pub returns-in-Some-clause-always_no_room : goal.returns-in-Some-clause-always_no_room
+returns-in-Some-clause-always_no_room g c = c.allocate.ensures.always_no_room
+
+pub returns-in-None-clause-always_no_room : goal.returns-in-None-clause-always_no_room
+returns-in-None-clause-always_no_room g c = λ u b w. absurd (denied c.refusal-in-None.result 8 c.refusal-in-None.ensures (omega arith) u)

@@ -1,5 +1,7 @@
-use Rattle.std.proofs.Common.{arith, inl, inr, Some, ap, refl, sym, ◌∙◌, subst}
+use Rattle.std.proofs.Common.{◌≡◌, arith, inl, inr, Option, Some, None, ap, refl, sym, ◌∙◌, subst}
+use Rattle.std.proofs.lemmas.Bool.{false≢true}
 use Rattle.o2_regions.specs.declared.answer.Roomed.{Roomed}
+use Rattle.o2_regions.specs.declared.answer.Roomed.TheVariants.{NoRoom}
 use Rattle.o2_regions.specs.Maps.{region_of}
 use Rattle.o2_store.specs.Shelf.{Shelf}
 use Rattle.o2_store.proofs.Loads.{added_load}
@@ -10,9 +12,9 @@ use Rattle.o2_stands.specs.Knows.{known_in}
 use Rattle.o2_stands.specs.Moves.{moved}
 use Rattle.o2_segs.specs.Limits.{KeepsLimits, made_in}
 use Rattle.o2_segs.specs.Made.{allocation_to}
-use Rattle.o2_segs.proofs.Making.{added_entry, added_map, added_place, done_answers_any, made_locked_by, made_matches, made_plain_by, moved_made, named_apart, named_behind, new_adds, new_name, no_stop, refusal_answers_any, run_same, stop_answers_any, stop_leaves, to_full, to_some}
+use Rattle.o2_segs.proofs.Making.{added_entry, added_map, added_out, added_place, done_answers_any, made_locked_by, made_matches, made_plain_by, moved_made, named_apart, named_behind, new_adds, new_name, no_stop, refusal_answers_any, run_same, stop_answers_any, stop_leaves, to_full, to_some}
 use Rattle.o2_segs.proofs.Resizing.{refusal_moved}
-use Rattle.o2_segs.proofs.Stops.{error_none}
+use Rattle.o2_segs.proofs.Stops.{denied, error_none, stop_is}
 use Rattle.o2_entries.specs.declared.Entry.{Entry}
 use Rattle.o2_segs.proofs.Sharing.{unheld_told}
 use Rattle.o2_segs.proofs.Limits.{entries_added, entries_behind, entries_same, limits_added, limits_more, limits_same, limits_then, limits_undone}
@@ -270,3 +272,28 @@ returns-in-Some-lock_new-clause-device g c = device_for _ _ _ _ _ _ _ (λ e. ap 
 
 pub returns-in-None-lock_new-clause-device : goal.returns-in-None-lock_new-clause-device
 returns-in-None-lock_new-clause-device g c = device_for _ _ _ _ _ _ _ (λ e. absurd (let a = c.hold_made-in-None-lock_new.ensures.answer in cc)) c.lock_new.ensures.device
+
+pub returns-then-not-is_locked-clause-always_no_room : goal.returns-then-not-is_locked-clause-always_no_room
+returns-then-not-is_locked-clause-always_no_room g c = λ u b w. absurd (false≢true (c.if-not-is_locked.ensures ∙ b))
+
+pub returns-in-Some-lock_new-clause-always_no_room : goal.returns-in-Some-lock_new-clause-always_no_room
+returns-in-Some-lock_new-clause-always_no_room g c = λ u b w.
+    (let s = c.args.store.now in
+    let t = c.make.new.store in
+    let id = c.in-Some.id in
+    let adds = c.in-Some.ensures.added in
+    let lacks = w.each t id (new_adds s t id c.args.size c.args.flags c.full_size.result c.is_shared.result c.full_size.ensures.size c.is_shared.ensures adds) in
+    stop_is c.in-Some-lock_new.stop NoRoom (c.in-Some-lock_new.ensures.always_no_room (added_out s t id _ c.law.ensures.shelf adds) lacks))
+
+pub returns-in-None-lock_new-clause-always_no_room : goal.returns-in-None-lock_new-clause-always_no_room
+returns-in-None-lock_new-clause-always_no_room g c = λ u b w.
+    absurd (let s = c.args.store.now in
+    let t = c.make.new.store in
+    let id = c.in-Some.id in
+    let adds = c.in-Some.ensures.added in
+    let lacks = w.each t id (new_adds s t id c.args.size c.args.flags c.full_size.result c.is_shared.result c.full_size.ensures.size c.is_shared.ensures adds) in
+    let z : ◌≡◌ {A = Option Roomed} None (Some NoRoom) = c.in-None-lock_new.ensures.always_no_room (added_out s t id _ c.law.ensures.shelf adds) lacks in
+    cc)
+
+pub returns-in-None-clause-always_no_room : goal.returns-in-None-clause-always_no_room
+returns-in-None-clause-always_no_room g c = λ u b w. absurd (denied c.refusal.result 8 c.refusal.ensures (omega arith) u)

@@ -1,11 +1,11 @@
-use Rattle.std.proofs.Common.{arith, ℕ, Option, IsSome, ap, refl, subst, sym, ◌∙◌}
+use Rattle.std.proofs.Common.{arith, ℕ, Option, Some, IsSome, ap, refl, subst, sym, ◌∙◌}
 use Rattle.o2_service.proofs.Among.{live_same}
 use Rattle.o2_changes.proofs.MakesStand.{new_locked, newest_still}
 use Rattle.o2_stands.specs.Stands.{Matches}
 use Rattle.o2_world.specs.Changes.{Locks, Makes, with_change}
 use Rattle.o2_stands.specs.Moves.{moved}
 use Rattle.o2_segs.proofs.Making.{is_stop_of, same_stop, set_live, still_unheld}
-use Rattle.o2_segs.proofs.Stops.{stop_fault, stop_full, stop_room, was_here}
+use Rattle.o2_segs.proofs.Stops.{room_never, room_stops, stop_fault, stop_full, stop_room, was_here}
 use Rattle.o2_entries.specs.declared.Attr.{Attr}
 use Rattle.o2_entries.specs.declared.Entry.{Entry}
 use Rattle.o2_store.specs.Shelf.{Shelf, entry_or, place_of}
@@ -125,3 +125,9 @@ returns-in-Some-clause-device g c = device_for _ _ _ _ _ _ _ (λ e. stop_fault c
 
 pub returns-in-None-clause-device : goal.returns-in-None-clause-device
 returns-in-None-clause-device g c = device_for _ _ _ _ _ _ _ (λ e. absurd (cc)) c.bring_in.ensures.device
+
+pub returns-in-Some-clause-always_no_room : goal.returns-in-Some-clause-always_no_room
+returns-in-Some-clause-always_no_room g c = λ out l. ap Some (room_stops c.bring_in.result c.in-Some.stop c.in-Some.ensures (c.bring_in.ensures.always_no_room out l))
+
+pub returns-in-None-clause-always_no_room : goal.returns-in-None-clause-always_no_room
+returns-in-None-clause-always_no_room g c = λ out l. absurd (room_never c.bring_in.result c.in-None.ensures (c.bring_in.ensures.always_no_room out l))

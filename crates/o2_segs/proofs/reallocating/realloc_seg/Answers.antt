@@ -1,11 +1,13 @@
-use Rattle.std.proofs.Common.{◌≡◌, ◌<◌, inl, inr, refl, ℕ, Option, IfSome, true, ap, subst, sym, ◌∙◌}
+use Rattle.std.proofs.Common.{◌≡◌, ◌<◌, inl, inr, refl, ℕ, Option, IfSome, true, ap, subst, sym, ◌∙◌, IsSome, arith}
 use Rattle.o2_changes.proofs.KeepingHolds.{told_holds}
 use Rattle.o2_stands.specs.Knows.{known_in}
 use Rattle.o2_segs.proofs.Resizing.{keeps, realloc_done, realloc_fixed, realloc_kept, realloc_none, refusal_moved, sized_matches, stopped_matches}
 use Rattle.o2_segs.proofs.Rows.{done_answers, refusal_answers}
-use Rattle.o2_segs.proofs.Stops.{error_none, not_here, stop_answers, stop_full, stop_room, was_here, stop_fault}
+use Rattle.o2_segs.proofs.Stops.{denied, error_none, not_here, room_never, room_stops, stop_answers, stop_full, stop_room, was_here, stop_fault}
+use Rattle.o2_regions.specs.declared.answer.Roomed.TheVariants.{Done, NoRoom}
 use Rattle.o2_regions.specs.declared.held.Held.{Held}
 use Rattle.o2_store.specs.Loads.{live_load_at}
+use Rattle.o2_store.specs.Shelf.{place_of}
 use Rattle.o2_store.specs.Sizes.{all_wanted_at, stays}
 use Rattle.o2_world.specs.Rulings.{full_size, reallocation}
 use Rattle.o2_segs.proofs.Limits.{limits_moved, limits_refl, limits_sized}
@@ -153,3 +155,34 @@ returns-in-Some-stop_of-clause-device g c = device_for _ _ _ _ _ _ _ (λ e. stop
 
 pub returns-in-None-stop_of-clause-device : goal.returns-in-None-stop_of-clause-device
 returns-in-None-stop_of-clause-device g c = device_for _ _ _ _ _ _ _ (λ e. absurd (cc)) c.resize.ensures.device
+
+pub returns-in-Some-stop_of-clause-present : goal.returns-in-Some-stop_of-clause-present
+returns-in-Some-stop_of-clause-present g c = λ e.
+    subst (λ (y : Option Held). IfSome y (λ h. IsSome (place_of c.args.store.now h.id.key))) c.in-Some.ensures (c.resize.ensures.no_room (stop_room c.resize.result c.in-Some-stop_of.stop c.in-Some-stop_of.ensures e)).0
+
+pub returns-then-is_fixed-clause-always_no_room : goal.returns-then-is_fixed-clause-always_no_room
+returns-then-is_fixed-clause-always_no_room g c = λ u. absurd (denied c.refusal.result 5 c.refusal.ensures (omega arith) u)
+
+pub returns-then-keeps_its_size-clause-always_no_room : goal.returns-then-keeps_its_size-clause-always_no_room
+returns-then-keeps_its_size-clause-always_no_room g c = λ u. absurd (denied c.refusal-then-keeps_its_size.result 5 c.refusal-then-keeps_its_size.ensures (omega arith) u)
+
+pub returns-in-Some-stop_of-clause-always_no_room : goal.returns-in-Some-stop_of-clause-always_no_room
+returns-in-Some-stop_of-clause-always_no_room g c = λ u.
+    (let s = c.args.store.now in
+    let keep = c.args.keep.now in
+    subst (λ (y : Option Held). IfSome y (λ h. IsSome (place_of s h.id.key) → stays s h.id.key keep ≡ true → s.places.size < all_wanted_at s h.id.key keep (full_size c.args.size) → c.in-Some-stop_of.stop ≡ NoRoom))
+    c.in-Some.ensures
+    (λ i st l. room_stops c.resize.result c.in-Some-stop_of.stop c.in-Some-stop_of.ensures
+    (c.resize.ensures.always_no_room i st (subst (λ (n : ℕ). s.places.size < all_wanted_at s c.in-Some.held.id.key keep n) (sym c.full_size-bytes.ensures.size) l))))
+
+pub returns-in-None-stop_of-clause-always_no_room : goal.returns-in-None-stop_of-clause-always_no_room
+returns-in-None-stop_of-clause-always_no_room g c = λ u.
+    (let s = c.args.store.now in
+    let keep = c.args.keep.now in
+    subst (λ (y : Option Held). IfSome y (λ h. IsSome (place_of s h.id.key) → stays s h.id.key keep ≡ true → s.places.size < all_wanted_at s h.id.key keep (full_size c.args.size) → Done c.done.result ≡ NoRoom))
+    c.in-Some.ensures
+    (λ i st l. absurd (room_never c.resize.result c.in-None-stop_of.ensures
+    (c.resize.ensures.always_no_room i st (subst (λ (n : ℕ). s.places.size < all_wanted_at s c.in-Some.held.id.key keep n) (sym c.full_size-bytes.ensures.size) l)))))
+
+pub returns-in-None-clause-always_no_room : goal.returns-in-None-clause-always_no_room
+returns-in-None-clause-always_no_room g c = λ u. absurd (denied c.refusal-in-None.result 5 c.refusal-in-None.ensures (omega arith) u)

@@ -1,13 +1,15 @@
 use Rattle.std.proofs.Common.{◌≡◌, ◌≢◌, ◌<◌, ◌≤◌, ◌∙◌, ap, arith, ℕ, None, IsSome, refl, subst, sym, true}
 use Rattle.o2_entries.specs.Tables.{slot_at}
-use Rattle.o2_swapmap.specs.Piles.{all_of}
+use Rattle.o2_swapmap.specs.Piles.{all_of, blocks_of}
 use Rattle.o2_store.specs.Idle.{NoneTaken}
 use Rattle.o2_store.specs.Loads.{live_load, swap_load}
 use Rattle.o2_store.specs.Needs.{all_wanted, named_in}
 use Rattle.o2_store.specs.Pictures.{picture, HasPicture}
 use Rattle.o2_store.specs.Shelf.{Shelf, HasAll, entry_of, place_of}
+use Rattle.o2_store.proofs.Asking.{asks_behind, asks_nothing}
+use Rattle.o2_store.proofs.Departing.{leave_same, leave_still, slide_keys}
 use Rattle.o2_store.proofs.Keeping.{keeps_refl, keys_clean, keys_keep}
-use Rattle.o2_service.proofs.Movings.{base_none, follows_keys, follows_refl, held_keys, settled_keys}
+use Rattle.o2_service.proofs.Movings.{base_none, follows_keys, follows_refl, held_keys, none_based, settled_keys}
 use Rattle.o2_service.proofs.bringing.bring.Goals as goal
 
 pub returns-then-is_some-clause-follows : goal.returns-then-is_some-clause-follows
@@ -29,8 +31,13 @@ returns-then-not-fits g c =
       follows = follows_keys s t c.args.regions.now e c.requires.held c.requires.settled;
       kept = λ k n i. subst (λ (z : Shelf). IsSome (place_of z k)) (sym e) i;
       none = λ k d n. ap (λ (z : Shelf). place_of z k) e ∙ n;
+      leave = leave_still s t _ (ap (λ (z : Shelf). z.places) e);
+      slide = λ start k f d i. ap (λ (z : Shelf). place_of z k) e;
+      asks = λ n. asks_nothing _ _ _ _ _ refl (λ r. absurd cc);
       here = λ r. absurd cc;
       no_room = λ r. c.fits.ensures.none c.if-not-fits.true;
+      absent = λ r. base_none (entry_of s c.args.id) (place_of s c.args.id.key) c.requires.live (rw c.base.ensures at (sym c.is_some.ensures ∙ c.if-is_some.false));
+      always_no_room = λ n l. refl;
       loads = λ r. absurd cc;
       stuck = λ r. absurd cc;
       idle = λ none load. record { device = refl; none = subst (λ (z : Shelf). NoneTaken z.swap) (sym e) none };
@@ -72,10 +79,29 @@ returns g c =
       follows = q.follows;
       kept = subst (λ (z : Shelf). (k : ℕ) → named_in z.entries c.args.keep.now k ≡ true → IsSome (place_of z k) → IsSome (place_of u k)) e q.kept;
       none = subst (λ (z : Shelf). (k : ℕ) → k ≢ c.args.id.key → place_of z k ≡ None → place_of u k ≡ None) e q.none;
+      leave = leave_same s t u _ (ap (λ (z : Shelf). z.places) e) (ap (λ (z : Shelf). z.entries) e) q.leave;
+      slide = slide_keys s t u c.args.id.key e q.slide;
+      asks = λ n. asks_behind _ _ _ _ _ _ _ _ (ap (λ (z : Shelf). blocks_of z.swap c.args.id.key) e) refl (λ r. r) q.asks;
       here = q.here;
       no_room = λ r. absurd (q.never.0 r);
+      absent = λ r. absurd (q.never.0 r);
+      always_no_room = λ n l. absurd (let room = c.fits.ensures.fits c.if-not-fits.false in omega (arith, room, l));
       loads = λ r. subst (λ (z : Shelf). (all_of z.swap < swap_load z) × (z.places.size < live_load z)) e (q.loads r);
       stuck = λ r. let k = q.stuck r in record { full = k.full; out = k.out; same = k.same ∙ ap (λ (z : Shelf). slot_at z.entries c.args.id.key) e };
       idle = λ none load. q.idle (subst (λ (z : Shelf). NoneTaken z.swap) (sym e) none) (subst (λ (z : Shelf). live_load z ≤ z.places.size) (sym e) load);
       never = q.never.1;
     }
+
+pub returns-then-is_some-clause-leave : goal.returns-then-is_some-clause-leave
+returns-then-is_some-clause-leave g c = leave_still c.args.store.now c.args.store.now _ refl
+
+pub returns-then-is_some-clause-slide : goal.returns-then-is_some-clause-slide
+returns-then-is_some-clause-slide g c = λ start k f d i. refl
+
+pub returns-then-is_some-clause-always_no_room : goal.returns-then-is_some-clause-always_no_room
+returns-then-is_some-clause-always_no_room g c = λ n l.
+    absurd (none_based (entry_of c.args.store.now c.args.id) (place_of c.args.store.now c.args.id.key) n (rw c.base.ensures at (sym c.is_some.ensures ∙ c.if-is_some.true)))
+
+pub returns-then-is_some-clause-asks : goal.returns-then-is_some-clause-asks
+returns-then-is_some-clause-asks g c = λ n.
+    absurd (none_based (entry_of c.args.store.now c.args.id) (place_of c.args.store.now c.args.id.key) n (rw c.base.ensures at (sym c.is_some.ensures ∙ c.if-is_some.true)))

@@ -1,8 +1,13 @@
-use Rattle.std.proofs.Common.{◌≡◌, ◌∙◌, ap, is_some, inl, inr, ℕ, None, subst, sym, arith}
+use Rattle.std.proofs.Common.{◌≡◌, ◌≢◌, ◌+◌, ◌∙◌, ap, is_some, inl, inr, ℕ, None, IsSome, refl, subst, sym, arith}
 use Rattle.std.proofs.lemmas.Bool.{cases_eq, false≢true}
 use Rattle.o2_store.specs.Pictures.{picture}
 use Rattle.o2_store.specs.Idle.{NoneTaken}
-use Rattle.o2_store.specs.Shelf.{KeepsAll, SameTables, Shelf, place_of}
+use Rattle.o2_place.specs.Layout.{used}
+use Rattle.o2_store.specs.Leaving.{lacking}
+use Rattle.o2_store.specs.Shelf.{KeepsAll, SameTables, Shelf, entry, place_of, rounded}
+use Rattle.o2_swapmap.specs.Piles.{Blocks, blocks_of}
+use Rattle.o2_store.proofs.Asking.{asks_behind, asks_nothing}
+use Rattle.o2_store.proofs.Departing.{gap_left, leave_in, leave_out}
 use Rattle.o2_store.proofs.Loads.{out_load}
 use Rattle.o2_store.proofs.Keeping.{keeps_trans, tables_trans, keeps_later}
 use Rattle.o2_service.proofs.Among.{live_same}
@@ -21,6 +26,9 @@ returns-in_default g c =
       follows = r.follows;
       kept = λ k n i. ap is_some (r.kept k n) ∙ i;
       none = λ k d e. r.none k e;
+      leave = leave_out c.args.store.now c.make_room.new.store c.args.id.key _ r.tables (r.none c.args.id.key c.requires.out) refl r.leave;
+      slide = λ start k f d i. r.still k i;
+      asks = asks_nothing _ _ _ _ _ r.unasked (λ x. absurd (c.in_default.not-Here x));
       here = λ x. absurd (c.in_default.not-Here x);
       loads = r.loads;
       stuck = λ x. record { full = r.full x; out = r.none c.args.id.key c.requires.out; same = r.entry };
@@ -79,6 +87,18 @@ returns-in-Here g c =
     let b = S.block c.make_room.new.swap in
     let d = S.block c.fill_gap.new.swap in
     let first : KeepsAll told pic s a u b = keeps_trans told pic s t u a b b (keeps_later (S.told c.make_room.new.swap) told pic s t a b f.device.told (r.keeps pic c.requires.backed.clean)) (q.keeps told pic b) in
+    let key = c.args.id.key in
+    let out : place_of t key ≡ None = r.none key c.requires.out in
+    let later : SameTables t v = tables_trans t u v (q.keeps told pic b).tables f.keeps.tables in
+    let size : rounded (entry t key).size ≡ rounded (entry s key).size = ap rounded (r.tables.same key).size in
+    let moved : rounded (entry u key).size ≡ rounded (entry t key).size = ap rounded ((q.keeps told pic b).tables.same key).size in
+    let takes : used v.places.ranges + lacking v key ≡ used t.places.ranges + rounded (entry s key).size = omega (arith, f.takes, q.load, moved, size) in
+    let present : (j : ℕ) → j ≢ key → is_some (place_of v j) ≡ is_some (place_of t j) = λ j n. ap is_some (f.alone j n) ∙ q.presence j in
+    let others : (j : ℕ) → IsSome (place_of t j) → IsSome (place_of v j) = λ j i. elim (cases_eq j key) [
+      | inl same ↦ absurd (false≢true (sym (ap is_some (subst (λ (x : ℕ). place_of t x ≡ None) (sym same) out)) ∙ i))
+      | inr other ↦ present j other ∙ i
+    ] in
+    let none : (j : ℕ) → j ≢ key → place_of t j ≡ None → place_of v j ≡ None = λ j n e. not_there (place_of v j) (present j n ∙ ap is_some e) in
     record {
       keeps = keeps_trans told pic s u v a b d first f.keeps;
       clean = f.clean;
@@ -90,6 +110,11 @@ returns-in-Here g c =
         | inr other ↦ ap is_some (f.alone k other) ∙ (q.presence k ∙ (ap is_some (r.kept k n) ∙ i))
       ];
       none = λ k d e. f.alone k d ∙ not_there (place_of u k) (q.presence k ∙ ap is_some (r.none k e));
+      leave = leave_in s t v key (rounded (entry s key).size) later c.requires.out (sym size) takes others none r.leave;
+      asks = asks_behind _ _ _ _ _ _ _ _ (ap (λ (z : Blocks). blocks_of z key) q.blocks ∙ r.pile) r.unasked (λ x. x) f.asks;
+      slide = λ start j g n i.
+          (let gap = gap_left s t v key start r.tables r.still out present g in
+          f.alone j n ∙ (ap (λ (z : Shelf). place_of z j) (q.alone start gap).0 ∙ r.still j (sym (present j n) ∙ i)));
       here = f.here;
       loads = λ x. absurd (f.never.2 x);
       stuck = λ x. absurd (f.never.2 x);

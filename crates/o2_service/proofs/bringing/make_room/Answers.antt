@@ -1,6 +1,8 @@
-use Rattle.std.proofs.Common.{◌+◌, ◌∙◌, ap, refl, arith, rules}
+use Rattle.std.proofs.Common.{ℕ, ◌+◌, ◌∙◌, ap, is_some, refl, arith, rules, subst, sym}
 use Rattle.o2_place.specs.Layout.{used}
+use Rattle.o2_store.specs.Leaving.{LeaveFor}
 use Rattle.o2_store.specs.Shelf.{Shelf, entry, rounded}
+use Rattle.o2_store.proofs.Departing.{leave_behind, leave_still}
 use Rattle.o2_store.proofs.Keeping.{keeps_refl, keeps_trans, same_tables, tables_trans, keeps_later}
 use Rattle.o2_store.proofs.Choosing.{same_named, same_wanted}
 use Rattle.o2_service.proofs.Among.{live_same, loads_after}
@@ -19,6 +21,10 @@ loop-id-init g c = record {
   follows = follows_refl c.args.store.now c.args.regions.now c.requires.held c.requires.settled;
   kept = λ k n. refl;
   none = λ k n. n;
+  still = λ k p. refl;
+  unasked = refl;
+  pile = refl;
+  leave = leave_still c.args.store.now c.args.store.now _ refl;
   idle = λ l. (refl, refl);
   entry = refl;
   faults = omega arith;
@@ -56,6 +62,10 @@ loop-id-preserved g c =
       follows = follows_trans c.args.regions.now c.loop-id.regions v.new.regions t u i.follows e.follows;
       kept = λ k n. e.kept k (same_named s t c.args.keep.now k i.tables ∙ n) ∙ i.kept k n;
       none = λ k n. e.none k (i.none k n);
+      unasked = e.unasked ∙ i.unasked;
+      pile = e.pile ∙ i.pile;
+      still = λ k p. (let a = e.still k p in a ∙ i.still k (sym (ap is_some a) ∙ p));
+      leave = leave_behind s t u _ i.tables e.tables.size i.none e.none i.leave (subst (λ (n : ℕ). LeaveFor t u n) (ap rounded (i.tables.same c.args.id.key).size) e.leave);
       idle = λ l. absurd
           (let w = ap (λ (x : Shelf). used x.places.ranges + rounded (entry x c.args.id.key).size) (i.idle l).0 in
           let z = ap (λ (x : Shelf). x.places.size) (i.idle l).0 in
@@ -86,6 +96,10 @@ returns-then-not-matches g c =
       follows = follows_trans c.args.regions.now c.loop-id.regions v.new.regions t u i.follows e.follows;
       kept = λ k n. e.kept k (same_named s t c.args.keep.now k i.tables ∙ n) ∙ i.kept k n;
       none = λ k n. e.none k (i.none k n);
+      unasked = e.unasked ∙ i.unasked;
+      pile = e.pile ∙ i.pile;
+      still = λ k p. (let a = e.still k p in a ∙ i.still k (sym (ap is_some a) ∙ p));
+      leave = leave_behind s t u _ i.tables e.tables.size i.none e.none i.leave (subst (λ (n : ℕ). LeaveFor t u n) (ap rounded (i.tables.same c.args.id.key).size) e.leave);
       entry = e.entry ∙ i.entry;
       room = search rules;
       loads = λ q. loads_after s t i.tables i.map (e.loads q);

@@ -1,8 +1,11 @@
-use Rattle.std.proofs.Common.{ap, ◌∙◌, arith}
+use Rattle.std.proofs.Common.{◌+◌, ◌<◌, length, ap, ◌∙◌, arith, subst, sym}
 use Rattle.o2_entries.specs.Tables.{slot_at}
-use Rattle.o2_swapmap.specs.Piles.{all_of}
-use Rattle.o2_store.specs.Shelf.{Shelf}
+use Rattle.o2_swapmap.specs.Piles.{all_of, blocks_of}
+use Rattle.o2_place.specs.Layout.{used}
+use Rattle.o2_store.specs.Shelf.{Shelf, entry, rounded}
+use Rattle.o2_store.proofs.Departing.{leave_same}
 use Rattle.o2_service.proofs.Among.{live_same}
+use Rattle.o2_service.proofs.Amounts.{live_within}
 use Rattle.o2_service.proofs.Movings.{clean_chosen, fewer_leaving, keeps_chosen, kept_leaving, may_evict, none_leaving, place_chosen, short_load, stale_never, tables_chosen, told_but}
 use Rattle.o2_service.proofs.Placing.{held_same}
 use Rattle.o2_service.proofs.bringing.make_way.Goals as goal
@@ -51,6 +54,11 @@ returns g c =
       follows = c.settle_moved.ensures.follows;
       kept = kept_leaving s t u key keep out e v w.others;
       none = none_leaving s t u key keep out e v w.others;
+      unasked = w.unasked;
+      pile = w.piles key (subst (λ (z : Shelf). key < length z.entries) (sym e) (live_within s c.args.id c.requires.live)) (λ same. v.other (sym same)) ∙ ap (λ (z : Shelf). blocks_of z.swap key) e;
+      still = λ k i. w.evicts.places k i ∙ place_chosen s t k e;
+      leave = leave_same s t u _ (ap (λ (z : Shelf). z.places) e) (ap (λ (z : Shelf). z.entries) e)
+          (w.leave _ (subst (λ (z : Shelf). z.places.size < used z.places.ranges + rounded (entry s key).size) (sym e) c.requires.short));
       entry = w.evicts.entries key (place_chosen s t key e ∙ c.requires.out) ∙ ap (λ (z : Shelf). slot_at z.entries key) e;
       fewer = λ r. fewer_leaving s t u key keep out e v (w.fewer r);
       loads = λ r. short_load s t key e c.law.ensures.shelf c.law.ensures.sum c.requires.out c.requires.short (w.loads r);

@@ -2,9 +2,11 @@ use Rattle.std.proofs.Common.{◌<◌, ◌∙◌, ℕ, arith, refl, length, get_
 use Rattle.std.proofs.lemmas.Option.{slice_get-get_or}
 use Rattle.o2_place.specs.declared.seg_id.SegId.{SegId}
 use Rattle.o2_store.specs.Pictures.{picture}
+use Rattle.o2_store.proofs.Departing.{leave_still}
 use Rattle.o2_store.proofs.Keeping.{keeps_refl, keeps_trans, tables_trans, locked_stay, keeps_later}
 use Rattle.o2_store.proofs.Loads.{same_live_load}
 use Rattle.o2_service.proofs.Among.{all_live_same, loads_after, needs_at, only_refl, only_trans, present_more, same_needed, stays_refl, stays_trans}
+use Rattle.o2_service.proofs.Departed.{leave_needs}
 use Rattle.o2_service.proofs.Movings.{follows_refl, follows_trans}
 use Rattle.o2_store.proofs.Framing.{device_behind}
 use Rattle.o2_service.proofs.serving.bring_all.Goals as goal
@@ -20,6 +22,7 @@ loop-k-init g c = record {
   pictured = c.requires.pictures;
   stays = stays_refl c.args.need.now c.args.store.now;
   only = only_refl c.args.need.now c.args.store.now;
+  leave = leave_still c.args.store.now c.args.store.now 0 refl;
   here = record { each = λ i p l e. absurd (omega (arith, l)) };
   fits = c.requires.fits;
   follows = follows_refl c.args.store.now c.args.regions.now c.requires.held c.requires.settled;
@@ -63,6 +66,7 @@ returns-in_default g c =
       stays = stays_trans need s t u i.stays e.stays;
       only = only_trans need s t u i.only e.only;
       locked = locked_stay s u c.law-in_default.ensures.shelf (tables_trans s t u i.keeps.tables e.keeps.tables);
+      leave = λ q. absurd (c.in_default.not-Here q);
       here = λ q. absurd (c.in_default.not-Here q);
       never = e.never;
       loads = λ q. loads_after s t i.keeps.tables i.map (e.loads q);
@@ -100,6 +104,7 @@ loop-k-preserved g c =
       pictured = λ j m seg x. i.pictured j m seg ((q.same j).image (m, seg) x);
       stays = stays_trans need s t u i.stays e.stays;
       only = only_trans need s t u i.only e.only;
+      leave = leave_needs need s t u i.keeps.tables q.size i.stays i.only e.stays e.only i.leave (e.leave c.in-Here.is);
       here = present_more t u need k (get_or need k d) i.here e.stays (slice_get-get_or need k d l) (rw c.pairs-pairs.ensures.pairs at (e.here c.in-Here.is));
       fits = omega (arith, n, q.size, i.fits);
       idle = λ none load.

@@ -1,6 +1,7 @@
 use Rattle.std.proofs.Common.{◌≡◌, ◌≤◌, IsTrue}
 use Rattle.o2_swapmap.specs.Piles.{all_of}
 use Rattle.o2_store.specs.Idle.{Idles}
+use Rattle.o2_store.specs.Leaving.{LeaveFor}
 use Rattle.o2_store.specs.Loads.{live_load}
 use Rattle.o2_store.specs.Pictures.{picture, HasPicture}
 use Rattle.o2_store.specs.Shelf.{AreClean, HasAll, KeepsAll}
@@ -21,6 +22,7 @@ invariant-loop-k g l =
       pictured : HasAll (HasPicture l.images) l.store;
       stays : Stays l.need l.initial.store l.store;
       only : OnlyNeededComes l.need l.initial.store l.store;
+      leave : LeaveFor l.initial.store l.store 0;
       here : ArePresent l.store l.need l.k;
       fits : all_needed l.store l.need ≤ l.store.places.size;
       follows : Follows l.initial.regions l.store l.regions;

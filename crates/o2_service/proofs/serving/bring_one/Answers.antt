@@ -1,4 +1,5 @@
 use Rattle.std.proofs.Common.{arith}
+use Rattle.o2_store.proofs.Departing.{leave_here}
 use Rattle.o2_service.proofs.Among.{only_by, stays_by, wanted_needed}
 use Rattle.o2_service.proofs.serving.bring_one.Goals as goal
 
@@ -31,3 +32,6 @@ returns-in-NoRoom-clause-never g c = λ e.
     (let w = wanted_needed c.args.store.now c.args.need.now c.args.id.key c.requires.among in
     let n = rw c.ids.ensures at (c.bring.ensures.no_room c.in-NoRoom.is) in
     omega (arith, w, n, c.requires.fits))
+
+pub returns-in-Here-clause-leave : goal.returns-in-Here-clause-leave
+returns-in-Here-clause-leave g c = λ r. leave_here c.args.store.now c.bring.new.store c.args.id.key (c.bring.ensures.here c.in-Here.is) c.bring.ensures.leave

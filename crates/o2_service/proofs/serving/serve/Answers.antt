@@ -1,10 +1,12 @@
-use Rattle.std.proofs.Common.{◌≤◌, ◌∙◌, ap, sym, subst, is_some}
+use Rattle.std.proofs.Common.{◌≤◌, ◌∙◌, ap, refl, sym, subst, is_some}
 use Rattle.o2_swapmap.specs.Piles.{all_of}
 use Rattle.std.proofs.lemmas.Bool.{false≢true}
 use Rattle.o2_store.specs.Idle.{NoneTaken}
 use Rattle.o2_store.specs.Loads.{live_load}
 use Rattle.o2_store.specs.Pictures.{picture, HasPicture}
 use Rattle.o2_store.specs.Shelf.{Shelf, HasAll}
+use Rattle.o2_store.proofs.Departing.{leave_same, leave_still}
+use Rattle.o2_service.specs.Needs.{AreServed}
 use Rattle.o2_service.proofs.Fitting.{all_present}
 use Rattle.o2_service.proofs.Clocks.{clean_marked, held_learned, keeps_marked, live_marked, locked_marked, needed_marked, only_bits, only_marked, settled_learned, stays_marked}
 use Rattle.o2_service.proofs.Placing.{only_trans}
@@ -63,3 +65,22 @@ pub returns-clause-idle : goal.returns-clause-idle
 returns-clause-idle g c = λ none load.
     (let e = c.learn.ensures.learned.rest in
     c.bring_all.ensures.idle (subst (λ (z : Shelf). NoneTaken z.swap) (sym e) none) (subst (λ (z : Shelf). live_load z ≤ z.places.size) (sym e) load))
+
+pub returns-then-are_here-clause-leave : goal.returns-then-are_here-clause-leave
+returns-then-are_here-clause-leave g c = λ r. leave_still c.args.store.now c.args.store.now 0 refl
+
+pub returns-clause-leave : goal.returns-clause-leave
+returns-clause-leave g c = λ r.
+    (let e = c.learn.ensures.learned.rest in
+    leave_same c.args.store.now c.learn.new.store c.bring_all.new.store 0 (ap (λ (z : Shelf). z.places) e) (ap (λ (z : Shelf). z.entries) e) (c.bring_all.ensures.leave r))
+
+pub returns-then-are_here-clause-same : goal.returns-then-are_here-clause-same
+returns-then-are_here-clause-same g c = λ a. (refl, refl, refl, refl)
+
+pub returns-then-not-is_room-clause-same : goal.returns-then-not-is_room-clause-same
+returns-then-not-is_room-clause-same g c = λ a.
+    absurd (let missing : AreServed c.args.store.now c.args.need.now → ⊥ = rw c.pairs.ensures.pairs at (c.are_here.ensures.missing c.if-are_here.false) in missing a)
+
+pub returns-clause-same : goal.returns-clause-same
+returns-clause-same g c = λ a.
+    absurd (let missing : AreServed c.args.store.now c.args.need.now → ⊥ = rw c.pairs.ensures.pairs at (c.are_here.ensures.missing c.if-are_here.false) in missing a)

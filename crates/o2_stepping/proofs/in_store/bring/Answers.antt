@@ -2,6 +2,7 @@ use Rattle.std.proofs.lemmas.Option.{slice_get_within}
 use Rattle.o2_segbus.proofs.Writings.{inside_is}
 use Rattle.o2_service.proofs.Among.{all_live_same}
 use Rattle.o2_stepping.proofs.Bringing.{can_step}
+use Rattle.o2_stepping.proofs.Goings.{goes_served}
 use Rattle.o2_stepping.proofs.Keeping.{only_holds, ready_same}
 use Rattle.o2_stepping.proofs.Named.{ages_present}
 use Rattle.o2_stepping.proofs.Worlds.{bytes_same}
@@ -65,3 +66,7 @@ returns-clause-here g c = λ here n e.
 
 pub serve-served-requires-clause-backed : goal.serve-served-requires-clause-backed
 serve-served-requires-clause-backed g c = record { clean = c.requires.ready.clean; device = c.requires.ready.device }
+
+pub returns-clause-leave : goal.returns-clause-leave
+returns-clause-leave g c = λ here.
+    goes_served c.args.store.now c.serve-served.new.store c.serve-served.ensures.keeps.tables c.law.ensures.shelf c.law-2.ensures.shelf c.law.ensures.sum c.law-2.ensures.sum (c.serve-served.ensures.leave here)

@@ -1,8 +1,10 @@
-use Rattle.std.proofs.Common.{ℕ, List, ap, sym, subst, ◌∙◌, refl}
+use Rattle.std.proofs.Common.{ℕ, ◌≤◌, List, ap, sym, subst, ◌∙◌, refl}
+use Rattle.o2_place.specs.Layout.{Layout, used}
 use Rattle.o2_world.specs.Effect.{effect}
 use Rattle.o2_run.specs.Pieces.{counts}
 use Rattle.o2_stepping.specs.Worlds.{away_of, before_in}
 use Rattle.o2_stepping.proofs.Gates.{map_undone}
+use Rattle.o2_stepping.proofs.Goings.{goes_kept, only_kept, stays_kept}
 use Rattle.o2_stepping.proofs.Keeping.{held_stays, marks_hold, ready_same, shape_trans, try_shape}
 use Rattle.o2_stepping.proofs.Puts.{stop_hands}
 use Rattle.o2_stepping.proofs.Trials.{away_same, map_missed, never_stops, no_cause, not_begun, no_step, on_ran, part_first, stays_still, stop_part, together, together_in_part, tried, tried_for, wanted}
@@ -150,3 +152,15 @@ pub returns-clause-idle : goal.returns-clause-idle
 returns-clause-idle g c = λ none load.
     let i = c.bring_in.ensures.idle none load in
     record { device = i.device; none = subst NoneTaken (sym (ap (λ (x : Shelf). x.swap) c.try_step.ensures.store.store)) i.none }
+
+pub returns-clause-only : goal.returns-clause-only
+returns-clause-only g c = only_kept c.args.need.now c.args.store.now c.bring_in.new.store c.try_step.new.store (ap (λ (x : Shelf). x.places) c.try_step.ensures.store.store) c.bring_in.ensures.only
+
+pub returns-clause-stays : goal.returns-clause-stays
+returns-clause-stays g c = stays_kept c.args.need.now c.args.store.now c.bring_in.new.store c.try_step.new.store (ap (λ (x : Shelf). x.places) c.try_step.ensures.store.store) c.bring_in.ensures.stays
+
+pub returns-clause-leave : goal.returns-clause-leave
+returns-clause-leave g c = λ r. goes_kept c.args.store.now c.bring_in.new.store c.try_step.new.store (ap (λ (x : Shelf). x.places) c.try_step.ensures.store.store) (c.in-Ok.ensures.leave refl)
+
+pub returns-clause-room : goal.returns-clause-room
+returns-clause-room g c = subst (λ (x : Layout). used x.ranges ≤ x.size) (sym (ap (λ (x : Shelf). x.places) c.try_step.ensures.store.store)) c.bring_in.ensures.room

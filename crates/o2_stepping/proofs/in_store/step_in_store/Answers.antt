@@ -6,8 +6,8 @@ use Rattle.o2_isa.specs.View.{Registers, bound_registers}
 use Rattle.o2_place.specs.declared.seg_id.SegId.{SegId}
 use Rattle.o2_segbus.specs.Bus.{held_under}
 use Rattle.o2_segbus.specs.Seen.{hold_in, present_in, seen}
-use Rattle.o2_service.proofs.Among.{all_live_same}
-use Rattle.o2_service.specs.Needs.{AreLive, all_needed, size_in}
+use Rattle.o2_service.proofs.Among.{all_live_same, only_refl, only_trans}
+use Rattle.o2_service.specs.Needs.{AreLive, OnlyNeededComes, all_needed, size_in}
 use Rattle.o2_outer.specs.Texts.{Rose}
 use Rattle.o2_outer.specs.Inputs.{left_as}
 use Rattle.o2_store.specs.Loads.{live_load, swap_load}
@@ -19,6 +19,7 @@ use Rattle.o2_world.specs.Effect.{effect}
 use Rattle.o2_run.specs.Room.{seated, touched}
 use Rattle.o2_stepping.specs.Rooms.{AreNeeded, IsWanted, ages_of, all_names, left_in, needed_names, pair_of, room_in, seated_in}
 use Rattle.o2_stepping.specs.Worlds.{away_of, before_in, bytes_with}
+use Rattle.o2_stepping.proofs.Goings.{goes_refl, goes_then, only_more, only_named}
 use Rattle.o2_stepping.proofs.Here.{may_step, seats_here}
 use Rattle.o2_stepping.proofs.Keeping.{shape_refl, shape_trans}
 use Rattle.o2_stepping.proofs.Lefts.{left_less, left_most, touched_few}
@@ -32,6 +33,7 @@ use Rattle.o2_stepping.proofs.Steps.{asked_at, asks_at, at_begun, at_stop, count
 use Rattle.o2_stepping.proofs.Rooms.{room_fits, room_same}
 use Rattle.o2_stepping.proofs.Worlds.{registers_are, seen_present, view_same}
 use Rattle.o2_store.proofs.Idling.{idle_then}
+use Rattle.o2_store.proofs.Keeping.{tables_trans}
 use Rattle.o2_stepping.proofs.in_store.step_in_store.Goals as goal
 
 pub tries-init : goal.tries-init
@@ -58,6 +60,8 @@ tries-init g c =
       faults = omega arith;
       bytes = λ tells k. refl;
       idle = λ none load. record { device = refl; none = none };
+      only = only_refl need s;
+      leave = goes_refl s;
       live = subst (λ (x : List (SegId × ℕ)). AreLive s x) (sym e) (live_seated s m pid cpu c.requires.ready.held);
       seats = subst (λ (x : List (SegId × ℕ)). AreNeeded x (seated_in m pid cpu)) (sym e) (needed_all (seated_in m pid cpu));
       can_step = λ h. may_step s m pid r.named r.settled cpu c.requires.process (sym c.are_here-here.ensures ∙ h);
@@ -118,6 +122,8 @@ tries-preserved g c =
       faults = omega (arith, i.faults, e.swap_count);
       bytes = λ tells k. missed_then _ x0 sel is (e.same tells) k ∙ i.bytes (e.device.1 tells) k;
       idle = idle_then s t u _ _ _ i.shape.tables i.idle e.idle;
+      only = subst (λ (x : List (SegId × ℕ)). OnlyNeededComes x s u) (sym added) (only_more old more s u (only_trans old s t u i.only e.only));
+      leave = goes_then old s t u i.shape.tables e.shape.tables.size e.room i.only e.stays i.leave (e.leave refl);
       live = subst (λ (x : List (SegId × ℕ)). AreLive u x) (sym added) (live_more u old more (all_live_same t u old e.shape.tables i.live) (live_pair u o pid sel.0 e.ready.held));
       seats = subst (λ (x : List (SegId × ℕ)). AreNeeded x (seated_in o pid d)) (sym added)
           (needed_more old more (seated_in o pid d)
@@ -488,3 +494,47 @@ returns-in-Ok-Stepped-clause-idle g c = idle_then c.args.store.now c.tries.store
 
 pub returns-then-not-add_missed-clause-idle : goal.returns-then-not-add_missed-clause-idle
 returns-then-not-add_missed-clause-idle g c = idle_then c.args.store.now c.tries.store c.serve_and_try.new.store _ _ _ c.tries.invariant.shape.tables c.tries.invariant.idle c.in-Ok-Missed.ensures.idle
+
+-- Who comes and goes.
+
+pub returns-in-Err-clause-only : goal.returns-in-Err-clause-only
+returns-in-Err-clause-only g c = λ bytes known tells.
+    (let S = g.S.SwapDevice in
+    let i = c.tries.invariant in
+    let e = c.in-Err.ensures in
+    let s = c.args.store.now in
+    let t = c.tries.store in
+    let u = c.serve_and_try.new.store in
+    let need = c.tries.need in
+    let z : Before = before_in (away_of s c.args.regions.now c.args.images.now (S.blocks c.args.swap.now) (S.block c.args.swap.now)) s c.args.regions.now c.args.pid c.args.cpu.now bytes known in
+    only_named need s u (needed_names z) (all_live_same t u need e.shape.tables i.live) (tables_trans s t u i.shape.tables e.shape.tables) (i.named bytes known (e.device.1 tells)) (only_trans need s t u i.only e.only))
+
+pub returns-in-Ok-Stepped-clause-only : goal.returns-in-Ok-Stepped-clause-only
+returns-in-Ok-Stepped-clause-only g c = λ bytes known tells.
+    (let S = g.S.SwapDevice in
+    let i = c.tries.invariant in
+    let e = c.in-Ok-Stepped.ensures in
+    let s = c.args.store.now in
+    let t = c.tries.store in
+    let u = c.serve_and_try.new.store in
+    let need = c.tries.need in
+    let z : Before = before_in (away_of s c.args.regions.now c.args.images.now (S.blocks c.args.swap.now) (S.block c.args.swap.now)) s c.args.regions.now c.args.pid c.args.cpu.now bytes known in
+    only_named need s u (needed_names z) (all_live_same t u need e.shape.tables i.live) (tables_trans s t u i.shape.tables e.shape.tables) (i.named bytes known (e.device.1 tells)) (only_trans need s t u i.only e.only))
+
+pub returns-then-not-add_missed-clause-only : goal.returns-then-not-add_missed-clause-only
+returns-then-not-add_missed-clause-only g c = λ bytes known tells.
+    (let S = g.S.SwapDevice in
+    let i = c.tries.invariant in
+    let e = c.in-Ok-Missed.ensures in
+    let s = c.args.store.now in
+    let t = c.tries.store in
+    let u = c.serve_and_try.new.store in
+    let need = c.tries.need in
+    let z : Before = before_in (away_of s c.args.regions.now c.args.images.now (S.blocks c.args.swap.now) (S.block c.args.swap.now)) s c.args.regions.now c.args.pid c.args.cpu.now bytes known in
+    only_named need s u (needed_names z) (all_live_same t u need e.shape.tables i.live) (tables_trans s t u i.shape.tables e.shape.tables) (i.named bytes known (e.device.1 tells)) (only_trans need s t u i.only e.only))
+
+pub returns-in-Ok-Stepped-clause-leave : goal.returns-in-Ok-Stepped-clause-leave
+returns-in-Ok-Stepped-clause-leave g c = λ r.
+    (let i = c.tries.invariant in
+    let e = c.in-Ok-Stepped.ensures in
+    goes_then c.tries.need c.args.store.now c.tries.store c.serve_and_try.new.store i.shape.tables e.shape.tables.size e.room i.only e.stays i.leave (e.leave refl))

@@ -3,10 +3,11 @@ use Rattle.std.specs.Prelude.{IsTrue}
 use Rattle.o2_isa.specs.Presence.{is_in}
 use Rattle.o2_segbus.specs.Frames.{CanStep}
 use Rattle.o2_segbus.specs.Seen.{present_in}
-use Rattle.o2_service.specs.Needs.{AreLive, size_in}
+use Rattle.o2_service.specs.Needs.{AreLive, OnlyNeededComes, size_in}
 use Rattle.o2_stands.specs.Stands.{IsReady}
 use Rattle.o2_world.specs.Known.{Known}
 use Rattle.o2_run.specs.Room.{touched}
+use Rattle.o2_stepping.specs.Goings.{GoForRoom}
 use Rattle.o2_stepping.specs.Rooms.{AreNeeded, ages_of, left_in, needed_names, seated_in}
 use Rattle.o2_stepping.specs.Shapes.{SameShape}
 use Rattle.o2_stepping.specs.Worlds.{away_of, before_in, bytes_with, parts_of}
@@ -31,6 +32,8 @@ invariant-tries g l =
       bytes : IsTrue (S.told l.swap) → (n : ℕ) → bytes_with (away_of l.store l.regions l.images (S.blocks l.swap) (S.block l.swap)) l.store n
           ≡ bytes_with (away_of l.fn.store l.fn.regions l.images (S.blocks l.fn.swap) (S.block l.fn.swap)) l.fn.store n;
       idle : Idles (live_load l.fn.store) l.fn.store l.store l.fn.swap l.swap;
+      only : OnlyNeededComes l.need l.fn.store l.store;
+      leave : GoForRoom l.fn.store l.store;
       live : AreLive l.store l.need;
       seats : AreNeeded l.need (seated_in l.regions l.pid l.cpu);
       can_step : l.here ≡ true → CanStep l.store l.regions l.pid l.cpu;

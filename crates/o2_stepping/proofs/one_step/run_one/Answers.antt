@@ -15,7 +15,7 @@ use Rattle.o2_gate.specs.Pointed.{IsAway}
 use Rattle.o2_gate.specs.declared.called.Called.TheVariants as called
 use Rattle.o2_stepping.specs.Ran.{Leaves, IsDone}
 use Rattle.o2_stepping.specs.declared.tally.Tally.{Tally}
-use Rattle.o2_stepping.proofs.Leaving.{effect_by, done_by, ended_stays}
+use Rattle.o2_stepping.proofs.Leaving.{effect_by, done_by, ended_stays, waited}
 use Rattle.o2_gate.specs.Targets.{targets}
 use Rattle.o2_gate.specs.Pointed.{are_ready}
 use Rattle.o2_stepping.proofs.Gates.{done_boundless, trap_boundless, gate_boundless, away_by, whole_same, frame_by, frame_then, moved, by_answer, fault_by, still_of, missed_by, none_asked, none_missed, none_undone, asked_of, points_from, undone_missed, undone_of}
@@ -26,7 +26,7 @@ use Rattle.o2_run.specs.declared.fault.Fault.{Fault}
 use Rattle.o2_run.specs.Pieces.{Counts, counts, PartHands}
 use Rattle.o2_gate.specs.declared.called.Called.{Called}
 use Rattle.o2_stepping.specs.Pieces.{AttemptHands}
-use Rattle.o2_stepping.proofs.Puts.{no_hands, asked_hands, back_hands, exit_hands, trap_hands, fault_hands, behind, trap_part, fault_part}
+use Rattle.o2_stepping.proofs.Puts.{no_hands, asked_hands, back_hands, exit_hands, trap_hands, waits_hands, fault_hands, behind, trap_part, fault_part}
 use Rattle.o2_stepping.proofs.one_step.run_one.Goals as goal
 
 pub returns-in-Done-clause-leaves_as : goal.returns-in-Done-clause-leaves_as
@@ -41,7 +41,7 @@ returns-in-Done-clause-leaves_as g c = λ text m f input known bound left same.
     (g.R.Sink.taken c.args.report.now) (g.R.Sink.taken c.outlived.new.report) c.outlived.result)
     (sym (effect_by b r (done_boundless f v w c.args.cpu.now cpu (c.in-Done.ensures.boundless f bound))))
     (c.outlived.ensures.leaves f b (answered b r) cpu (whole f v).bytes w
-    (left_as text (g.I.Source.left c.args.input.now) (g.I.Source.past c.args.input.now)) _ _ _ _ refl refl (record { state = refl; piece = refl; lines = refl; cpu = refl; changes = refl; bytes = λ n. refl; input = left; to_console = gains_none _; to_report = gains_none _ }))
+    (left_as text (g.I.Source.left c.args.input.now) (g.I.Source.past c.args.input.now)) _ _ _ _ refl refl (record { state = refl; piece = refl; lines = refl; cpu = refl; changes = refl; waits = refl; bytes = λ n. refl; input = left; to_console = gains_none _; to_report = gains_none _ }))
 
 pub returns-in-Done-clause-leaves : goal.returns-in-Done-clause-leaves
 returns-in-Done-clause-leaves g c = λ f input known bound left same. returns-in-Done-clause-leaves_as g c None tt f input known bound left same
@@ -555,3 +555,51 @@ returns-in-Ok-Asked-clause-ready g c =
 
 pub returns-in-Ok-Asked-clause-puts : goal.returns-in-Ok-Asked-clause-puts
 returns-in-Ok-Asked-clause-puts g c = asked_hands _ c.in-Ok-Asked.field-0 c.in-Ok-Asked.ensures.puts _ _ c.in-Ok-Asked.field-0-is
+
+-- A call that waits.
+pub returns-in-Ok-Waits-clause-leaves_as : goal.returns-in-Ok-Waits-clause-leaves_as
+returns-in-Ok-Waits-clause-leaves_as g c = λ text m f input known bound left same.
+    let v : View = g.B.Bus.view c.args.bus.now in
+    let w : View = g.B.Bus.view c.step_cached.new.bus in
+    let new : View = g.B.Bus.view c.call.new.bus in
+    let b = before_call (boundless f v) c.args.pid c.args.cpu.now input known in
+    let step = c.in-Gate.ensures.step in
+    let bound_then : IsBound w = subst (λ (s : Machine). IsBound s.view) (sym step.1) bound in
+    let does = moved f c.args.pid input known c.in-Gate.service c.in-Gate.next c.call.new.cpu new _ _ _ _ _ _ (Ok c.in-Ok-Waits.field-0) (state c.step_cached.new.cpu w) (state c.args.cpu.now v) step.1
+    (c.in-Ok-Waits.ensures.does text m f input known bound_then left (record { avail = same.avail })) in
+    let t = by_answer f c.args.pid input known c.in-Gate.service c.in-Gate.next c.call.new.cpu new _ _ _ _ _ _ v c.args.cpu.now c.in-Ok-Waits.field-0
+    called.Waits c.in-Ok-Waits.field-0-is does in
+    let gate = gate_boundless f v w c.args.cpu.now c.step_cached.new.cpu c.in-Gate.service c.in-Gate.next (c.in-Gate.ensures.boundless f bound) in
+    waited b _ (effect_by b (Err (stop.Gate c.in-Gate.service c.in-Gate.next)) gate ∙ ap (λ (e : Effect). single_stepped b e) t.effect)
+    c.call.new.cpu (whole f v).bytes (whole f new).bytes _ _ _ _ _ _ (λ n. refl) left (still_of f c.call.new.cpu c.args.cpu.now v new _ _ _ _ _ _ t.untouched)
+
+pub returns-in-Ok-Waits-clause-leaves : goal.returns-in-Ok-Waits-clause-leaves
+returns-in-Ok-Waits-clause-leaves g c = λ f input known bound left same. returns-in-Ok-Waits-clause-leaves_as g c None tt f input known bound left same
+
+pub returns-in-Ok-Waits-clause-frame : goal.returns-in-Ok-Waits-clause-frame
+returns-in-Ok-Waits-clause-frame g c =
+    frame_then (g.B.Bus.view c.args.bus.now) (g.B.Bus.view c.step_cached.new.bus) (g.B.Bus.view c.call.new.bus) c.step_cached.ensures.frame
+    (frame_by (g.B.Bus.view c.step_cached.new.bus) (g.B.Bus.view c.call.new.bus) c.call.ensures.frame)
+
+pub returns-in-Ok-Waits-clause-writes : goal.returns-in-Ok-Waits-clause-writes
+returns-in-Ok-Waits-clause-writes g c = λ agrees.
+    writes_then (g.B.Bus.view c.args.bus.now) (g.B.Bus.view c.step_cached.new.bus) (g.B.Bus.view c.call.new.bus) c.step_cached.ensures.frame.held
+    (writes_data (g.B.Bus.view c.args.bus.now) (g.B.Bus.view c.step_cached.new.bus) c.args.cpu.now agrees c.step_cached.ensures.writes) c.call.ensures.writes
+
+pub returns-in-Ok-Waits-clause-agrees : goal.returns-in-Ok-Waits-clause-agrees
+returns-in-Ok-Waits-clause-agrees g c = λ agrees.
+    agrees_then c.step_cached.new.cpu c.call.new.cpu (g.B.Bus.view c.step_cached.new.bus) (g.B.Bus.view c.call.new.bus) c.call.ensures.frame c.call.ensures.selectors (c.step_cached.ensures.agrees agrees)
+
+pub returns-in-Ok-Waits-clause-present : goal.returns-in-Ok-Waits-clause-present
+returns-in-Ok-Waits-clause-present g c = λ f input known bound never.
+    let v : View = g.B.Bus.view c.args.bus.now in
+    let w : View = g.B.Bus.view c.step_cached.new.bus in
+    let step = c.in-Gate.ensures.step in
+    let bound_then : IsBound w = subst (λ (s : Machine). IsBound s.view) (sym step.1) bound in
+    call_present f v c.args.cpu.now c.args.pid input known c.in-Gate.service c.in-Gate.next
+    (gate_boundless f v w c.args.cpu.now c.step_cached.new.cpu c.in-Gate.service c.in-Gate.next (c.in-Gate.ensures.boundless f bound)) (c.in-Gate.ensures.present f bound refl)
+    (told_by c.args.pid input known c.in-Gate.service c.in-Ok-Waits.field-0 called.Waits (state c.step_cached.new.cpu w) (state c.args.cpu.now v)
+    c.in-Ok-Waits.field-0-is step.1 (c.in-Ok-Waits.ensures.names input known bound_then) f)
+
+pub returns-in-Ok-Waits-clause-puts : goal.returns-in-Ok-Waits-clause-puts
+returns-in-Ok-Waits-clause-puts g c = waits_hands _ c.in-Ok-Waits.field-0 c.in-Ok-Waits.ensures.puts c.in-Ok-Waits.field-0-is

@@ -105,7 +105,7 @@ returns-in-Err-Sink-clause-turns g c = λ tells text may s w stands left.
     let S = g.S.SwapDevice in
     let new = c.act.new in
     inl (faulted c.args.self.now _ _ s w c.in-Step.pid _ _ _ _ stands (sym c.next.ensures.pick ∙ c.in-Step.is) c.in-Step.ensures.live _ (S.blocks new.swap) (S.block new.swap) _ _
-    (record { sched = c.next.ensures.same; avail = c.act.ensures.keeps.avail; budget = refl; bytes = refl; lines = refl }) left
+    (record { sched = c.next.ensures.same; avail = c.act.ensures.keeps.avail; budget = refl; bytes = refl; lines = refl })
     (set_kept c.args.self.now.space new.self (S.blocks c.args.swap.now) (S.blocks new.swap) (S.block c.args.swap.now) (S.block new.swap) c.act.ensures.keeps c.act.ensures.device.blocks s stands.set)
     (λ chosen p at. subst (λ (f : Fault). ActsFault (before s w c.in-Step.pid p) w (parts_in new.self (S.blocks new.swap) (S.block new.swap))
     (left_as text (g.I.Source.left c.args.input.now) (g.I.Source.past c.args.input.now)) (left_as text (g.I.Source.left new.input) (g.I.Source.past new.input))

@@ -1,11 +1,13 @@
-use Rattle.std.proofs.Common.{◌≡◌, sym, subst, ap, ◌∙◌, arith, rules, ◌+◌, ◌≤◌, IsSome}
+use Rattle.std.proofs.Common.{◌≡◌, refl, sym, subst, ap, ◌∙◌, arith, rules, ◌+◌, ◌≤◌, IsSome}
 use Rattle.o2_place.specs.Layout.{used}
-use Rattle.o2_swapmap.specs.Piles.{all_of}
+use Rattle.o2_swapmap.specs.Piles.{all_of, blocks_of}
+use Rattle.o2_store.proofs.Asking.{asks_behind, asks_nothing}
 use Rattle.o2_store.specs.Pictures.{picture}
 use Rattle.o2_store.specs.Shelf.{Shelf, SameTables, place_of, entry, rounded}
 use Rattle.o2_store.proofs.Tables.{locked_at}
 use Rattle.o2_store.proofs.Keeping.{keys_keep, keys_clean, locked_stay}
 use Rattle.o2_store.proofs.Collecting.{need_wanted}
+use Rattle.o2_store.proofs.Departing.{leave_same, leave_still}
 use Rattle.o2_store.proofs.Leaving.{keys_written}
 use Rattle.o2_store.proofs.Loads.{full_load, out_load, same_swap_load, same_live_load}
 use Rattle.o2_store.specs.Idle.{NoneTaken}
@@ -65,3 +67,25 @@ pub returns-clause-idle : goal.returns-clause-idle
 returns-clause-idle g c = λ none load.
     (let e = c.list_keys-need.ensures.shelf in
     c.bring_key-answer.ensures.idle (subst (λ (x : Shelf). NoneTaken x.swap) (sym e) none) (subst (λ (x : Shelf). live_load x ≤ x.places.size) (sym e) load))
+
+pub returns-then-is_none-clause-leave : goal.returns-then-is_none-clause-leave
+returns-then-is_none-clause-leave g c = leave_still c.args.self.now c.args.self.now _ refl
+
+pub returns-then-memory_size-need-clause-leave : goal.returns-then-memory_size-need-clause-leave
+returns-then-memory_size-need-clause-leave g c = leave_still c.args.self.now c.list_keys-need.new.self _ (ap (λ (x : Shelf). x.places) c.list_keys-need.ensures.shelf)
+
+pub returns-clause-leave : goal.returns-clause-leave
+returns-clause-leave g c =
+    let e = c.list_keys-need.ensures.shelf in
+    leave_same c.args.self.now c.list_keys-need.new.self c.bring_key-answer.new.self _ (ap (λ (x : Shelf). x.places) e) (ap (λ (x : Shelf). x.entries) e) c.bring_key-answer.ensures.leave
+
+pub returns-then-is_none-clause-asks : goal.returns-then-is_none-clause-asks
+returns-then-is_none-clause-asks g c = λ n. asks_nothing _ _ _ _ _ refl (λ e. absurd cc)
+
+pub returns-then-memory_size-need-clause-asks : goal.returns-then-memory_size-need-clause-asks
+returns-then-memory_size-need-clause-asks g c = λ n. asks_nothing _ _ _ _ _ refl (λ e. absurd cc)
+
+pub returns-clause-asks : goal.returns-clause-asks
+returns-clause-asks g c = λ n.
+    (let e = c.list_keys-need.ensures.shelf in
+    asks_behind _ _ _ _ _ _ _ _ (ap (λ (x : Shelf). blocks_of x.swap c.args.id.key) e) refl (λ h. h) (c.bring_key-answer.ensures.asks (ap (λ (x : Shelf). place_of x c.args.id.key) e ∙ n)))

@@ -1,11 +1,14 @@
-use Rattle.std.proofs.Common.{◌≡◌, ◌<◌, ◌≤◌, ◌+◌, length, ap, sym, subst, ◌∙◌, None, is_some, arith, rules, true}
+use Rattle.std.proofs.Common.{◌≡◌, ◌<◌, ◌≤◌, ◌+◌, length, ap, refl, sym, subst, ◌∙◌, None, is_some, arith, rules, true}
 use Rattle.o2_place.specs.Layout.{used}
+use Rattle.o2_store.specs.Leaving.{lacking}
 use Rattle.o2_store.specs.Pictures.{picture}
 use Rattle.o2_store.specs.Needs.{has, all_need}
 use Rattle.o2_store.specs.Shelf.{Shelf, place_of, entry, rounded}
 use Rattle.o2_store.proofs.Tables.{within_at}
 use Rattle.o2_store.proofs.Keeping.{keeps_later, keeps_trans}
+use Rattle.o2_store.proofs.Asking.{asks_behind, asks_nothing}
 use Rattle.o2_store.proofs.Collecting.{kept_has, need_exceeds, same_need}
+use Rattle.o2_store.proofs.Departing.{leave_in, leave_out, leave_still}
 use Rattle.o2_store.proofs.Leaving.{some_not_none, written_in}
 use Rattle.o2_store.specs.Idle.{NoneTaken}
 use Rattle.o2_store.proofs.Loads.{out_load}
@@ -72,6 +75,8 @@ returns-in_default g c =
       out = λ n. (let out : place_of s key ≡ None = search rules in v.ensures.none key out);
       none = λ k d e. v.ensures.none k e;
       written = v.ensures.evicts.written;
+      leave = (let out : place_of s key ≡ None = search rules in leave_out s t key _ v.ensures.tables (v.ensures.none key out) c.rounded_size-len.ensures.value v.ensures.leave);
+      asks = λ n. asks_nothing _ _ _ _ _ v.ensures.unasked (λ e. absurd (c.in_default.not-Here e));
       kept = λ k h i. ap is_some (v.ensures.kept k (kept_has s.keys k h)) ∙ i;
       still = λ q k i. absurd
           (let l : used s.places.ranges + c.rounded_size-len.result ≤ s.places.size = omega (arith, q, c.rounded_size-len.ensures.value) in
@@ -102,3 +107,25 @@ returns-in_default g c =
 
 pub returns-in-Here-clause-device : goal.returns-in-Here-clause-device
 returns-in-Here-clause-device g c = (let v = c.evict_until-answer.ensures.device in device_behind _ _ _ _ _ _ _ v.blocks v.told v.faults c.come_in.ensures.device)
+
+pub returns-then-is_some-clause-leave : goal.returns-then-is_some-clause-leave
+returns-then-is_some-clause-leave g c = leave_still c.args.self.now c.args.self.now _ refl
+
+pub returns-in-Here-clause-leave : goal.returns-in-Here-clause-leave
+returns-in-Here-clause-leave g c =
+    let s = c.args.self.now in
+    let v = c.evict_until-answer in
+    let t = v.new.self in
+    let q = c.come_in.ensures in
+    let out : place_of s c.args.key ≡ None = search rules in
+    let len : c.rounded_size-len.result ≡ rounded (entry t c.args.key).size = c.rounded_size-len.ensures.value ∙ sym (ap rounded (v.ensures.tables.same c.args.key).size) in
+    let takes : used c.come_in.new.self.places.ranges + lacking c.come_in.new.self c.args.key ≡ used t.places.ranges + c.rounded_size-len.result = omega (arith, q.takes, len) in
+    leave_in s t c.come_in.new.self c.args.key _ q.tables out len takes q.others q.none v.ensures.leave
+
+pub returns-in-Here-clause-asks : goal.returns-in-Here-clause-asks
+returns-in-Here-clause-asks g c = λ n.
+    (let v = c.evict_until-answer in
+    asks_behind _ _ _ _ _ _ _ _ (v.ensures.piles c.args.key (within_at c.args.self.now.entries c.args.key c.requires.live) n) v.ensures.unasked (λ e. e) c.come_in.ensures.asks)
+
+pub returns-then-is_some-clause-asks : goal.returns-then-is_some-clause-asks
+returns-then-is_some-clause-asks g c = λ n. absurd (let here : is_some (place_of c.args.self.now c.args.key) ≡ true = search rules in some_not_none (place_of c.args.self.now c.args.key) here n)

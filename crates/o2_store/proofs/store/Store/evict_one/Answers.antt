@@ -1,5 +1,6 @@
-use Rattle.std.proofs.Common.{◌≡◌, ℕ, ◌<◌, subst, rules, Some}
-use Rattle.o2_store.specs.Shelf.{place_of, entry, rounded, IsSaved}
+use Rattle.std.proofs.Common.{◌≡◌, ℕ, ◌<◌, ap, subst, rules, Some}
+use Rattle.o2_store.specs.Shelf.{Shelf, place_of, entry, rounded, IsSaved}
+use Rattle.o2_store.proofs.Departing.{leave_one, leave_saved, leave_still}
 use Rattle.o2_store.proofs.Keeping.{keeps_trans, saved_there}
 use Rattle.o2_store.proofs.store.Store.evict_one.Goals as goal
 
@@ -33,8 +34,21 @@ returns-in_default-save g c = record {
   keys = search rules;
   stays = search rules;
   evicts = search rules;
+  leave = λ len l. leave_still c.args.self.now c.save.new.self len (ap (λ (x : Shelf). x.places) c.save.ensures.shelf);
+  unasked = c.save.ensures.unasked;
+  piles = c.save.ensures.piles;
   dropped = search rules;
   full = search rules;
   lacks = search rules;
   never = search rules;
 }
+
+pub returns-then-is_clean-clause-leave : goal.returns-then-is_clean-clause-leave
+returns-then-is_clean-clause-leave g c =
+    let e = c.let_go.ensures in
+    λ len l. leave_one c.args.self.now c.let_go.new.self c.args.key len c.requires.placed e.places e.frees l
+
+pub returns-in-Here-clause-leave : goal.returns-in-Here-clause-leave
+returns-in-Here-clause-leave g c =
+    let e = c.let_go-in-Here.ensures in
+    λ len l. leave_saved c.args.self.now c.save.new.self c.let_go-in-Here.new.self c.args.key len c.save.ensures.tables (ap (λ (x : Shelf). x.places) c.save.ensures.shelf) c.requires.placed e.places e.frees l

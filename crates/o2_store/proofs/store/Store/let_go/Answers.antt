@@ -1,4 +1,5 @@
 use Rattle.o2_store.specs.Shelf.{Shelf}
+use Rattle.o2_store.proofs.Departing.{frees}
 use Rattle.o2_store.proofs.Keeping.{IsShelf-gone, keeps_gone, clean_gone, gone_tables}
 use Rattle.o2_store.proofs.store.Store.let_go.Goals as goal
 
@@ -29,3 +30,10 @@ returns-clause-tables c =
     let s : Shelf = record { memory = i.phys; places = i.places; turns = i.clock; swap = i.swap; entries = i.entries; made = i.made; keys = i.keys.items } in
     let h = c.self.invariant.0 in
     rw (← c.self.view_is) (gone_tables s c.take.new.self c.leave.new.self c.args.key c.take.ensures.taken)
+
+pub returns-clause-frees : goal.returns-clause-frees
+returns-clause-frees c =
+    let i = c.self.inside in
+    let s : Shelf = record { memory = i.phys; places = i.places; turns = i.clock; swap = i.swap; entries = i.entries; made = i.made; keys = i.keys.items } in
+    let h = c.self.invariant.0 in
+    rw (← c.self.view_is) (frees s c.take.new.self c.args.key c.take.result h (rw (← c.self.view_is) at c.requires.placed) c.take.ensures.was c.take.ensures.used)

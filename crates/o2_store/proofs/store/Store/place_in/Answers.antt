@@ -1,9 +1,12 @@
-use Rattle.std.proofs.Common.{inl, inr, sym, ap, ◌∙◌, is_some, IsSome}
+use Rattle.std.proofs.Common.{inl, inr, refl, sym, ap, ◌∙◌, is_some, IsSome}
 use Rattle.o2_store.specs.Pictures.{picture}
 use Rattle.o2_store.specs.Shelf.{Shelf, entry}
 use Rattle.o2_store.proofs.Keeping.{keeps_trans}
 use Rattle.o2_store.proofs.Shifts.{keeps_filled, clean_filled, others_in, others_moved, read_there, out_told, out_pictured}
+use Rattle.o2_swapmap.specs.Piles.{blocks_of}
+use Rattle.o2_store.proofs.Asking.{asks_behind}
 use Rattle.o2_store.proofs.Choosing.{gap_failed, gap_filled}
+use Rattle.o2_store.proofs.Departing.{takes_none, takes_size}
 use Rattle.o2_store.proofs.store.Store.place_in.Goals as goal
 
 pub returns-in-Failed-clause-keeps : goal.returns-in-Failed-clause-keeps
@@ -80,3 +83,15 @@ returns-in-Failed-clause-alone g c = λ at f k n. gap_failed c.args.self.now c.m
 
 pub returns-clause-alone : goal.returns-clause-alone
 returns-clause-alone g c = λ at f k n. gap_filled c.args.self.now c.make_fit-at.new.self c.fill.new.self c.settle.new.self c.args.key k _ (c.make_fit-at.ensures.alone at f) c.fill.ensures.shelf c.settle.ensures.places n
+
+pub returns-in-Failed-clause-takes : goal.returns-in-Failed-clause-takes
+returns-in-Failed-clause-takes g c = takes_none c.args.self.now c.make_fit-at.new.self c.fill.new.self c.args.key c.make_fit-at.ensures.moved c.fill.ensures.shelf c.requires.out
+
+pub returns-clause-takes : goal.returns-clause-takes
+returns-clause-takes g c = takes_size c.args.self.now c.make_fit-at.new.self c.fill.new.self c.settle.new.self c.args.key _ c.make_fit-at.ensures.moved c.fill.ensures.shelf c.settle.ensures.places c.settle.ensures.takes
+
+pub returns-in-Failed-clause-asks : goal.returns-in-Failed-clause-asks
+returns-in-Failed-clause-asks g c = asks_behind _ _ _ _ _ _ _ _ (ap (λ (x : Shelf). blocks_of x.swap c.args.key) c.make_fit-at.ensures.moved.shelf) refl (λ e. absurd cc) c.fill.ensures.asks
+
+pub returns-clause-asks : goal.returns-clause-asks
+returns-clause-asks g c = asks_behind _ _ _ _ _ _ _ _ (ap (λ (x : Shelf). blocks_of x.swap c.args.key) c.make_fit-at.ensures.moved.shelf) refl (λ e. c.in_default.is) c.fill.ensures.asks

@@ -48,3 +48,6 @@ returns-clause-clean c =
 
 pub returns-then-not-fit_blocks-clause-clean : goal.returns-then-not-fit_blocks-clause-clean
 returns-then-not-fit_blocks-clause-clean c = rw (← c.self.view_is, (c.fit_blocks.ensures.full c.if-not-fit_blocks.true).1) (λ pic a. a)
+
+pub returns-clause-piles : goal.returns-clause-piles
+returns-clause-piles c = rw (← c.self.view_is) (λ k l n. c.fit_blocks.ensures.only.others k n (let m = c.self.invariant.0.swap_most in (λ e. absurd (omega (arith, l, m, e)))))
