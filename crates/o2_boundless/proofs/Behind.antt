@@ -1,5 +1,5 @@
 -- What a call does, as an effect, leaves the world of that effect.
-use Rattle.std.proofs.Common.{◌≡◌, ℕ, ◌++◌, drop, List, [], ◌∷◌, Option, Some, Result, Ok, Err, ap, ◌∙◌}
+use Rattle.std.proofs.Common.{◌≡◌, ℕ, Bool, not, ◌&&◌, ◌++◌, drop, List, [], ◌∷◌, Option, Some, Result, Ok, Err, ap, ◌∙◌}
 use Rattle.std.specs.Prelude.{if◌then◌else◌}
 use Rattle.std.specs.Result.{IfOk}
 use Rattle.o2_isa.specs.declared.cpu.Cpu.{Cpu}
@@ -10,10 +10,10 @@ use Rattle.o2_world.specs.CallParts.{Effect}
 use Rattle.o2_world.specs.Outcomes.{CallRow}
 use Rattle.o2_world.specs.Views.{bytes_in, holds_in}
 use Rattle.o2_world.specs.Text.{lines_text}
-use Rattle.o2_boundless.specs.declared.effect.Effect as code
+use Rattle.o2_world_parts.specs.declared.effect.Effect as code
 use Rattle.o2_boundless.specs.Shown.{Shown, before_call}
-use Rattle.o2_boundless.specs.Effects.{IsEffect, written, worked_slowly}
-use Rattle.o2_boundless.specs.Edits.{changes_of}
+use Rattle.o2_world_parts.specs.Effects.{IsEffect, written, worked_slowly}
+use Rattle.o2_world_parts.specs.Edits.{changes_of}
 use Rattle.o2_boundless.specs.Worked.{with_state, with_parts, with_worker, with_input, with_console, with_report, worked_from, worked_by}
 use Rattle.o2_boundless.specs.Called.{effect_by, behind_effect, behind_by, answer_of, answer_by}
 
@@ -69,8 +69,11 @@ unfolding after_by
 behind_ok {T} {E} (Err f) v n p x w u cs ds a b d h = tt
 behind_ok {T} {E} (Ok t) v n p x w u cs ds a b d h = λ e o. behind_is v n p x e w u cs o a b (h ∙ ap (after_by w) d)
 
-pub answer_is : (x : code.Effect) (v : Shown) (n : ℕ) (p : Process) (e : Effect) → IsEffect (before_call v n p) x e → (if is_live x.state then x.cpu.ax else 0) ≡ answer_of e
-answer_is x v n p e o = ap (λ s. if is_live s then x.cpu.ax else 0) o.state ∙ ap (λ c. if is_live e.state then c.ax else 0) o.cpu
+pub answer_is : (x : code.Effect) (v : Shown) (n : ℕ) (p : Process) (e : Effect) → IsEffect (before_call v n p) x e → (if is_live x.state && not x.waits then x.cpu.ax else 0) ≡ answer_of e
+answer_is x v n p e o =
+    ap (λ s. if is_live s && not x.waits then x.cpu.ax else 0) o.state
+    ∙ (ap (λ (w : Bool). if is_live e.state && not w then x.cpu.ax else 0) o.waits
+    ∙ ap (λ c. if is_live e.state && not e.waits then c.ax else 0) o.cpu)
 
 -- a call of a process that there is
 

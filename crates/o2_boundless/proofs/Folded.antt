@@ -5,8 +5,8 @@ use Rattle.std.specs.List.{list_any}
 use Rattle.std.proofs.lemmas.List.{map-append, take_more}
 use Rattle.o2_world.specs.World.{World}
 use Rattle.o2_world.specs.Changes.{Change, takes, with_change, with_changes}
-use Rattle.o2_boundless.specs.declared.changing.Edit.{Edit}
-use Rattle.o2_boundless.specs.Edits.{change_of, changes_of}
+use Rattle.o2_world_parts.specs.declared.changing.Edit.{Edit}
+use Rattle.o2_world_parts.specs.Edits.{change_of, changes_of}
 
 pub with_changes-none : (w : World) → with_changes w [] ≡ w
 unfolding with_changes

@@ -15,7 +15,8 @@ use Rattle.o2_world.specs.Outcomes.{CallRow, served, worded}
 use Rattle.o2_world.specs.Run.{changed, worked, all_changes}
 use Rattle.o2_world.specs.Slots.{words_in}
 use Rattle.o2_boundless.specs.Shown.{Shown}
-use Rattle.o2_boundless.specs.Called.{behind_effect, from_top, with_row, worded_by, words_by}
+use Rattle.o2_world_parts.specs.Layouts.{from_top}
+use Rattle.o2_boundless.specs.Called.{behind_effect, with_row, worded_by, words_by}
 
 -- a world with this dispatch and these lines
 told_with : Dispatch → List Line → World → World
@@ -114,7 +115,82 @@ all_go [] g service = λ b next a. refl
 all_go ((k, r) ∷ es) g service = picked (k == service) r (get es service) g.0 (all_go es g.1 service)
 
 rows_go : AllGo rows
-rows_go = ((λ b next a. refl), ((λ b next a. refl), ((λ b next a. refl), ((λ b next a. refl), ((λ b next a. refl), ((λ b next a. refl), ((λ b next a. refl), ((λ b next a. refl), ((λ b next a. refl), ((λ b next a. refl), ((λ b next a. refl), ((λ b next a. refl), ((λ b next a. refl), ((λ b next a. refl), ((λ b next a. refl), ((λ b next a. refl), ((λ b next a. refl), ((λ b next a. refl), ((λ b next a. refl), ((λ b next a. refl), ((λ b next a. refl), ((λ b next a. refl), tt))))))))))))))))))))))
+rows_go = (
+  (λ b next a. refl),
+  (
+    (λ b next a. refl),
+    (
+      (λ b next a. refl),
+      (
+        (λ b next a. refl),
+        (
+          (λ b next a. refl),
+          (
+            (λ b next a. refl),
+            (
+              (λ b next a. refl),
+              (
+                (λ b next a. refl),
+                (
+                  (λ b next a. refl),
+                  (
+                    (λ b next a. refl),
+                    (
+                      (λ b next a. refl),
+                      (
+                        (λ b next a. refl),
+                        (
+                          (λ b next a. refl),
+                          (
+                            (λ b next a. refl),
+                            (
+                              (λ b next a. refl),
+                              (
+                                (λ b next a. refl),
+                                (
+                                  (λ b next a. refl),
+                                  (
+                                    (λ b next a. refl),
+                                    (
+                                      (λ b next a. refl),
+                                      (
+                                        (λ b next a. refl),
+                                        (
+                                          (λ b next a. refl),
+                                          (
+                                            (λ b next a. refl),
+                                            (
+                                              (λ b next a. refl),
+                                              (
+                                                (λ b next a. refl),
+                                                (
+                                                  (λ b next a. refl),
+                                                  ((λ b next a. refl), tt),
+                                                ),
+                                              ),
+                                            ),
+                                          ),
+                                        ),
+                                      ),
+                                    ),
+                                  ),
+                                ),
+                              ),
+                            ),
+                          ),
+                        ),
+                      ),
+                    ),
+                  ),
+                ),
+              ),
+            ),
+          ),
+        ),
+      ),
+    ),
+  ),
+)
 
 by_words : (service : ℕ) → GoesBy (row_of service)
 unfolding row_of

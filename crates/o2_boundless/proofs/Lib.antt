@@ -1,14 +1,7 @@
-pub mod Lookups
-pub mod Mapped
-pub mod Places
 pub mod Folded
 pub mod Lists
 pub mod Indexes
 pub mod Walks
-pub mod Pointers
-pub mod Writing
-pub mod Telling
-pub mod Placed
 pub mod Serving
 pub mod Behind
 pub mod Kept

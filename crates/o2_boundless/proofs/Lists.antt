@@ -7,8 +7,8 @@ use Rattle.o2_world.specs.Changes.{Change, Drops}
 use Rattle.o2_world.specs.Known.{Known}
 use Rattle.o2_world.specs.Outcomes.{gone_by, gone_indexes, is_gone}
 use Rattle.o2_world.specs.Rulings.{indexes}
-use Rattle.o2_boundless.specs.declared.changing.Edit.{Edit}
-use Rattle.o2_boundless.specs.Edits.{change_of, changes_of}
+use Rattle.o2_world_parts.specs.declared.changing.Edit.{Edit}
+use Rattle.o2_world_parts.specs.Edits.{change_of, changes_of}
 
 pub changes_of-push : (es : List Edit) (e : Edit) → changes_of (es ++ e ∷ []) ≡ changes_of es ++ change_of e ∷ []
 changes_of-push es e = map-append change_of es (e ∷ [])

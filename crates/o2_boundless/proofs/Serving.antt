@@ -10,25 +10,27 @@ use Rattle.o2_world.specs.declared.types.Argument.{Argument}
 use Rattle.o2_world.specs.declared.types.Slot.{Slot}
 use Rattle.o2_world.specs.declared.types.State.TheVariants.{Live}
 use Rattle.o2_world.specs.World.{Calls, Line}
-use Rattle.o2_world.specs.CallParts.{Before, Effect, returned, trapped}
+use Rattle.o2_world.specs.CallParts.{Before, Effect, returned, trapped, waiting}
 use Rattle.o2_world.specs.Calls.{row_of}
 use Rattle.o2_world.specs.Changes.{Change, moved_lines}
-use Rattle.o2_world.specs.Outcomes.{CallRow, Done, Outcome, Does, Fails, Leaves, by_ruling, come_out, gone_indexes}
+use Rattle.o2_world.specs.Outcomes.{CallRow, Done, Outcome, Does, Fails, Waits, Leaves, by_ruling, come_out, gone_indexes}
 use Rattle.o2_world.specs.HugeRulings.{without}
 use Rattle.o2_world.specs.Rulings.{Ruling}
 use Rattle.o2_world.specs.Slots.{are_good, pointers_in, put_all, shown_in, targets_in, words_in}
 use Rattle.o2_world.specs.Text.{lines_text}
-use Rattle.o2_boundless.specs.declared.changing.Edit.{Edit}
-use Rattle.o2_boundless.specs.declared.effect.Effect as code
-use Rattle.o2_boundless.specs.declared.outcome.Done as code_done
+use Rattle.o2_world_parts.specs.declared.changing.Edit.{Edit}
+use Rattle.o2_world_parts.specs.declared.effect.Effect as code
+use Rattle.o2_world_parts.specs.declared.effect.Done as code_done
 use Rattle.o2_boundless.specs.declared.outcome.Outcome as code_outcome
 use Rattle.o2_boundless.specs.declared.rows.Row.{Row}
-use Rattle.o2_boundless.specs.Called.{from_top, worded_by, words_by}
-use Rattle.o2_boundless.specs.Edits.{changes_of}
-use Rattle.o2_boundless.specs.Effects.{IsEffect, came_back, left_by, written}
-use Rattle.o2_boundless.specs.Outcomes.{done_of, good_by, outcome_by, outcome_of, placed, row_by, shape_by, shown_by, slots_by, targets_by}
-use Rattle.o2_boundless.proofs.Placed.{good_is, shown_is, targets_are}
-use Rattle.o2_boundless.proofs.Writing.{put_is, put_nothing}
+use Rattle.o2_world_parts.specs.Layouts.{from_top}
+use Rattle.o2_boundless.specs.Called.{worded_by, words_by}
+use Rattle.o2_world_parts.specs.Edits.{changes_of}
+use Rattle.o2_world_parts.specs.Effects.{IsEffect, came_back, left_by, written}
+use Rattle.o2_world_parts.specs.Layouts.{done_of, good_by, placed, shown_by, targets_by}
+use Rattle.o2_boundless.specs.Outcomes.{outcome_by, outcome_of, row_by, shape_by, slots_by}
+use Rattle.o2_world_parts.proofs.Placed.{good_is, shown_is, targets_are}
+use Rattle.o2_world_parts.proofs.Writing.{put_is, put_nothing}
 
 -- what is told of every start with these registers
 pub here : (b : Before) (r : Result code.Effect NoMemory) (c : Cpu) (f : Before → Effect) → b.cpu ≡ c
@@ -86,6 +88,7 @@ come_named : (r : CallRow) (b : Before) (next : ℕ) (a : ℕ → ℕ) (o : Outc
 unfolding named
 come_named r b next a (Fails error values) = refl
 come_named r b next a (Does d) = refl
+come_named r b next a Waits = refl
 come_named r b next a (Leaves action code) = refl
 
 -- with good ones
@@ -116,7 +119,7 @@ unfolding moved_lines
 no_lines name = refl
 
 failed_by : Before → Cpu → (ℕ → List ℕ) → List Line → Effect
-failed_by b cpu bytes lines = record { cpu = cpu; state = Live; bytes = bytes; changes = []; input = b.input; piece = []; lines = lines }
+failed_by b cpu bytes lines = record { cpu = cpu; state = Live; bytes = bytes; changes = []; input = b.input; piece = []; lines = lines; waits = false }
 
 pub fails_is : (r : CallRow) (b : Before) (next : ℕ) (a : ℕ → ℕ) (cpu : Cpu) (words error : ℕ) (values : List Argument) → cpu ≡ returned b.cpu next words error → words ≡ (words_in r.slots)
     → came_back b cpu r.name r.slots a error (nothing b values) ≡ come_out r b next a (Fails error values)
@@ -162,6 +165,12 @@ pub out_leaves : (row : Row) (b : Before) (r : Result code.Effect NoMemory) (c :
 out_leaves row b r c a action exit o i q h =
     said b r (left_by b action exit) (come_out (row_by row) b b.cpu.ip a o) (ap (come_out (row_by row) b b.cpu.ip a) (sym q)) (here b r c (λ (d : Before). left_by d action exit) i h)
 
+pub out_waits : (row : Row) (b : Before) (x : code.Effect) (c : Cpu) (a : ℕ → ℕ) (o : Outcome) → b.cpu ≡ c → o ≡ Waits
+    → ((d : Before) → d.cpu ≡ c → IsEffect d x (waiting d)) → IsEffect b x (come_out (row_by row) b b.cpu.ip a o)
+out_waits row b x c a o i q h =
+    let P : Effect → Type 0 = λ e. IsEffect b x e in
+    subst P (ap (come_out (row_by row) b b.cpu.ip a) (sym q)) (h b i)
+
 -- The call of a service, from what is said of a certain one.
 
 pub of_service : (service k : ℕ) (b : Before) (a : ℕ → ℕ) (r : Result code_outcome.Outcome NoMemory) (o : Outcome) → service ≡ k → o ≡ outcome_by (row_of k) b a
@@ -185,17 +194,3 @@ args_are None name slots words args all e w h = cc
 args_are (Some r) name slots words args all e w h =
     padded_is all (from_top words args) h
     ∙ ap (λ (n : ℕ). slice_index (from_top n args)) (w ∙ ap words_in (sym (ap slots_in e)))
-
--- lines and writes of a call that comes back
-
-pub lines_are : (b : Before) (n error : ℕ) (name : List ℕ) (slots : List Slot) (a : ℕ → ℕ) (args values : List Argument) (changes : List Change) (ps : List (Slot × ℕ)) → b.number ≡ n → ps ≡ placed slots → args ≡ map (shown_by a) ps
-    → lines_text (Calls n name args error values ∷ moved_lines name changes) ≡ lines_text (Calls b.number name (shown_in slots a) error values ∷ moved_lines name changes)
-lines_are b n error name slots a args values changes ps m p s =
-    ap (λ (k : ℕ). lines_text (Calls k name args error values ∷ moved_lines name changes)) (sym m)
-    ∙ ap (λ (xs : List Argument). lines_text (Calls b.number name xs error values ∷ moved_lines name changes)) (s ∙ (ap (map (shown_by a)) p ∙ shown_is a slots))
-
-pub bytes_are : (b : Before) (slots : List Slot) (a : ℕ → ℕ) (ts : List (ℕ × ℕ)) (parts : List (List ℕ)) (ps : List (Slot × ℕ)) → ps ≡ placed slots → ts ≡ flat_map (targets_by a) ps
-    → written b.view.held ts parts b.view.bytes ≡ put_all b.view.held (targets_in slots a) parts b.view.bytes
-bytes_are b slots a ts parts ps p t =
-    ap (λ (us : List (ℕ × ℕ)). written b.view.held us parts b.view.bytes) (t ∙ (ap (flat_map (targets_by a)) p ∙ targets_are a slots))
-    ∙ put_is b.view.held (targets_in slots a) parts b.view.bytes

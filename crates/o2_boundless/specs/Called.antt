@@ -1,5 +1,5 @@
 -- A call with its arguments in the order in which a program pushes them, and the world behind it.
-use Rattle.std.specs.Prelude.{ℕ, zero, suc, List, [], ◌∷◌, ◌++◌, slice_index, if◌then◌else◌, Option, Some, None}
+use Rattle.std.specs.Prelude.{ℕ, List, ◌++◌, slice_index, ◌&&◌, not, if◌then◌else◌, Option, Some, None}
 use Rattle.o2_world.specs.World.{Process, is_live}
 use Rattle.o2_world.specs.CallParts.{Before, Effect, trapped}
 use Rattle.o2_world.specs.Calls.{row_of}
@@ -9,13 +9,9 @@ use Rattle.o2_world.specs.Outcomes.{CallRow, worded}
 use Rattle.o2_world.specs.Run.{all_changes}
 use Rattle.o2_world.specs.Slots.{words_in}
 use Rattle.o2_world.specs.Text.{lines_text}
+use Rattle.o2_world_parts.specs.Layouts.{from_top}
 use Rattle.o2_boundless.specs.Shown.{Shown, before_call}
-use Rattle.o2_boundless.specs.Effects.{worked_slowly}
-
--- so many arguments as words by their places from the top of the stack, where the last one lies; those that are missing are 0
-abbrev pub from_top : (words : ℕ) → List ℕ → List ℕ
-from_top zero args = []
-from_top (suc n) args = slice_index args n ∷ from_top n args
+use Rattle.o2_world_parts.specs.Effects.{worked_slowly}
 
 abbrev pub words_by : Option CallRow → ℕ
 words_by None = 0
@@ -38,9 +34,9 @@ effect_by v n p row args = with_row row (before_call v n p) p.cpu.ip args
 abbrev pub behind_effect : Shown → ℕ → Process → Effect → Shown
 behind_effect v n p e = record v { world = with_all (worked_slowly v.world n p e) (all_changes n e); report = v.report ++ lines_text e.lines }
 
--- the error number, and 0 where the process ended
+-- the error number, and 0 where the process ended or waits
 abbrev pub answer_of : Effect → ℕ
-answer_of e = if is_live e.state then e.cpu.ax else 0
+answer_of e = if is_live e.state && not e.waits then e.cpu.ax else 0
 
 abbrev pub behind_by : Shown → ℕ → List ℕ → Option CallRow → Option Process → Shown
 behind_by v n args row (Some p) = behind_effect v n p (effect_by v n p row args)

@@ -1,12 +1,7 @@
-pub mod Causes
 pub mod Shown
-pub mod Keys
-pub mod Edits
-pub mod Pairs
 pub mod Verdicts
 pub mod Sharing
 pub mod Outcomes
-pub mod Effects
 pub mod Called
 pub mod Worked
 pub mod Bare

@@ -1,17 +1,14 @@
 -- The table's rows, the words of a call and how it comes out, as values of the code.
-use Rattle.std.specs.Prelude.{ℕ, ◌==◌, Bool, List, [], ◌∷◌, drop, map, Option, Some, None, if◌then◌else◌}
-use Rattle.o2_isa.specs.View.{View}
-use Rattle.o2_world.specs.declared.types.Argument.{Argument}
+use Rattle.std.specs.Prelude.{ℕ, ◌==◌, Bool, List, [], Option, Some, None, if◌then◌else◌}
 use Rattle.o2_world.specs.declared.types.Slot.{Slot}
 use Rattle.o2_world.specs.CallParts.{Before}
+use Rattle.o2_world.specs.Calls.{nothing_written, number_written}
 use Rattle.o2_world.specs.HeapRulings.{HeapRuling, giving_back, setting_up, taking}
-use Rattle.o2_world.specs.Outcomes.{CallRow, Outcome, Done, Does, Fails, Leaves}
-use Rattle.o2_world.specs.Slots.{Pointer, are_good, pointers_at, shown_at, targets_at, words_in}
+use Rattle.o2_world.specs.Outcomes.{CallRow, Outcome, Does, Fails, Waits, Leaves}
 use Rattle.o2_boundless.specs.declared.rows.Row.{Row}
-use Rattle.o2_boundless.specs.declared.outcome.Done as code_done
 use Rattle.o2_boundless.specs.declared.outcome.Outcome as code
 use Rattle.o2_boundless.specs.declared.outcome.Outcome.TheVariants as out
-use Rattle.o2_boundless.specs.Edits.{changes_of}
+use Rattle.o2_world_parts.specs.Layouts.{done_of}
 
 -- name and slots of a row
 
@@ -43,29 +40,14 @@ heap_ruling service a bytes =
     else if service == 21 then taking (a 0) bytes
     else giving_back (a 1) (a 0) bytes
 
--- the slots, each with the place of its lowest word
-abbrev pub placed : List Slot → List (Slot × ℕ)
-placed [] = []
-placed (s ∷ ss) = (s, words_in ss) ∷ placed ss
-
-abbrev pub shown_by : (ℕ → ℕ) → Slot × ℕ → Argument
-shown_by a p = shown_at p.0 a p.1
-
-abbrev pub good_by : View → (ℕ → ℕ) → Slot × ℕ → Bool
-good_by v a p = are_good v (pointers_at p.0 v a p.1)
-
-abbrev pub where_to : Pointer → ℕ × ℕ
-where_to p = (p.selector, p.offset)
-
-abbrev pub targets_by : (ℕ → ℕ) → Slot × ℕ → List (ℕ × ℕ)
-targets_by a p = map where_to (targets_at p.0 a p.1)
+-- what is written of the number that a call on a semaphore leaves
+abbrev pub written_of : (writes : Bool) → ℕ → List (List ℕ)
+written_of writes number = if writes then number_written number else nothing_written number
 
 -- how a call comes out
-
-abbrev pub done_of : (input : List ℕ) → code_done.Done → Done
-done_of input d = record { values = d.values.items; parts = d.parts.items; changes = changes_of d.edits.items; input = drop d.read input; piece = d.piece.items }
 
 abbrev pub outcome_of : (input : List ℕ) → code.Outcome → Outcome
 outcome_of input (out.Fails error values) = Fails error values.items
 outcome_of input (out.Does d) = Does (done_of input d)
+outcome_of input out.Waits = Waits
 outcome_of input (out.Leaves action code) = Leaves action code

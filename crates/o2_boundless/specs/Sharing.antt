@@ -17,7 +17,3 @@ is_share_at k q i = is_share k q (held_by k i (holder k i))
 
 abbrev pub is_no_share : Known → (name index : ℕ) → Bool
 is_no_share k q i = not (is_share_at k q i)
-
--- a text is that of a pair
-abbrev pub has_text : List ℕ → List ℕ × ℕ → Bool
-has_text text t = same_text t.0 text

@@ -4,7 +4,7 @@ use Rattle.o2_world.specs.World.{Segment}
 use Rattle.o2_world.specs.Known.{Marks, marks_of}
 use Rattle.o2_world.specs.Rulings.{Ruling}
 use Rattle.o2_boundless.specs.declared.rulings.Verdict.{Verdict}
-use Rattle.o2_boundless.specs.Edits.{changes_of}
+use Rattle.o2_world_parts.specs.Edits.{changes_of}
 
 abbrev pub ruling_of : Verdict → Ruling
 ruling_of v = record { error = v.error; value = v.value; changes = changes_of v.edits.items }

@@ -6,9 +6,9 @@ use Rattle.o2_world.specs.World.{Held, Process, is_live}
 use Rattle.o2_world.specs.Map.{Map}
 use Rattle.o2_world.specs.Views.{bytes_in, holds_in, with_bytes}
 use Rattle.o2_world.specs.Holders.{with_process}
-use Rattle.o2_boundless.specs.declared.effect.Effect.{Effect}
+use Rattle.o2_world_parts.specs.declared.effect.Effect.{Effect}
 use Rattle.o2_boundless.specs.Shown.{Shown}
-use Rattle.o2_boundless.specs.Effects.{written}
+use Rattle.o2_world_parts.specs.Effects.{written}
 
 -- a process with these registers, and the state where it goes on
 abbrev pub with_state : Process → Cpu → State → Process

@@ -9,23 +9,23 @@ ghost use Rattle.o2_world.specs.Outcomes.{come_out, gone_by, gone_indexes, is_go
 ghost use Rattle.o2_world.specs.HugeRulings.{without};
 ghost use Rattle.o2_world.specs.Slots.{words_in};
 ghost use Rattle.o2_boundless.specs.Called.{answer, answer_of, behind_call, behind_effect, effect_by, worded_by};
-ghost use Rattle.o2_boundless.specs.Edits.{change_of, changes_of};
-ghost use Rattle.o2_boundless.specs.Effects.{IsEffect};
-ghost use Rattle.o2_boundless.specs.Outcomes.{outcome_of, placed, row_by, shape_by};
+ghost use Rattle.o2_world_parts.specs.Edits.{change_of, changes_of};
+ghost use Rattle.o2_world_parts.specs.Effects.{IsEffect};
+ghost use Rattle.o2_world_parts.specs.Layouts.{placed};
+ghost use Rattle.o2_boundless.specs.Outcomes.{outcome_of, row_by, shape_by};
 ghost use Rattle.o2_boundless.specs.Shown.{before_call, known_by};
 
-use crate::changing::Edit;
-use crate::effect::{Effect, comes_back, leaves, returned, trapped};
+use crate::World;
 use crate::huge::without;
-use crate::look::{held_by, is_alive, process_of};
-use crate::outcome::{Done, Outcome};
-use crate::pointing::registers;
+use crate::outcome::Outcome;
 use crate::rows::{Row, row_of};
-use crate::slots::{Layout, from_top, layout_of};
 use crate::working::is_live;
-use crate::{Held, Process, World};
 use o2_base::NoMemory;
 use o2_isa::Cpu;
+use o2_world_parts::{
+    Done, Edit, Effect, Held, Layout, Process, comes_back, from_top, held_by, is_alive, layout_of,
+    leaves, process_of, registers, returned, trapped, waits,
+};
 use std::alloc::Global;
 
 /// Whether so many holds are all that there are.
@@ -112,6 +112,7 @@ impl World {
                 let after = self.cleared(alloc, &after, &done.edits)?;
                 comes_back(alloc, n, after, row.name, layout, words, 0, done)
             }
+            Outcome::Waits => Ok(waits(alloc, &cpu)),
             Outcome::Leaves(action, code) => leaves(alloc, n, &cpu, action, code),
         }
     }
@@ -225,7 +226,7 @@ impl World {
         ensures error { IfOk result (λ r. r.1 ≡ answer_of (effect_by self.now n process.now (row_of service) args.now)) }
     {
         let effect = self.effect(alloc, n, process, service, args)?;
-        let error = if is_live(effect.state) {
+        let error = if is_live(effect.state) && !effect.waits {
             effect.cpu.ax
         } else {
             0

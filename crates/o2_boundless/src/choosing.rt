@@ -8,7 +8,7 @@ ghost use Rattle.o2_world.specs.Rulings.{free_index};
 ghost use Rattle.o2_boundless.specs.Shown.{known_by};
 
 use crate::World;
-use crate::look::{holds_index, is_held_under, live_below, reserves};
+use o2_world_parts::{holds_index, is_held_under, live_below, reserves};
 
 impl World {
     /// How many names live.

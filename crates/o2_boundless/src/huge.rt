@@ -7,20 +7,19 @@ ghost use Rattle.o2_world.specs.HugeRulings.{other_shares, resized_members, resi
 ghost use Rattle.o2_world.specs.HugeRulings.{without};
 ghost use Rattle.o2_world.specs.Rulings.{indexes};
 ghost use Rattle.o2_world.specs.SharedRulings.{marks_under, shared_from};
-ghost use Rattle.o2_boundless.specs.Edits.{changes_of};
+ghost use Rattle.o2_world_parts.specs.Edits.{changes_of};
 ghost use Rattle.o2_boundless.specs.Shown.{known_by};
 ghost use Rattle.o2_boundless.specs.Verdicts.{marks_in, ruling_of};
 
-use crate::changing::Edit;
-use crate::look::{held_by, is_held_under};
+use crate::World;
 use crate::rulings::{
     Verdict, full_size, grants, in_use, is_in_run, is_index, made_segment, refusal, region_by,
 };
 use crate::sharing::holder;
-use crate::{Held, How, Reserve, Segment, World};
 use o2_base::NoMemory;
 use o2_desc::Access;
 use o2_isa::Cpu;
+use o2_world_parts::{Edit, Held, How, Reserve, Segment, held_by, is_held_under};
 use std::alloc::Global;
 
 /// A run of indexes: its first one, and how many are reserved for it.

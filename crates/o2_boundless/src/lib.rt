@@ -4,21 +4,17 @@
 mod call;
 mod changing;
 mod choosing;
-mod effect;
 mod huge;
 mod laws;
-mod look;
-mod naming;
 mod outcome;
-mod parts;
 mod pointing;
 mod rows;
 mod rulings;
+mod semaphores;
 mod sharing;
-mod slots;
 mod working;
 mod world;
 
 pub use laws::a_call_is_that_of_a_step;
-pub use parts::{Held, How, Process, Reserve, Segment};
+pub use o2_world_parts::{Held, How, Process, Reserve, Segment};
 pub use world::World;

@@ -9,15 +9,14 @@ ghost use Rattle.o2_boundless.specs.Outcomes.{heap_ruling, outcome_by, outcome_o
 ghost use Rattle.o2_boundless.specs.Shown.{before_call};
 ghost use Rattle.o2_boundless.specs.Verdicts.{ruling_of};
 
-use crate::changing::Edit;
-use crate::pointing::{first, registers};
+use crate::World;
 use crate::rulings::{Verdict, grants};
-use crate::slots::{put_value, word_bytes};
-use crate::{Process, World};
+use crate::semaphores::{clearing, setting};
 use o2_base::{Bytes, NoMemory};
 use o2_regions::Answer;
 use o2_subseg::{sub_alloc, sub_free, sub_set};
 use o2_world::{Argument, Slot};
+use o2_world_parts::{Done, Process, first, put_value, registers, word_bytes};
 use std::alloc::Global;
 
 /// The selectors of a run rise by 8, which is 1 shifted left by so many bits.
@@ -29,23 +28,14 @@ const MOST: u16 = 65_532;
 /// The selector of a heap isn't that of data that can be written.
 const NO_SEGMENT: u16 = 315;
 
-/// What a call gives that is done: the values of its line, the parts that are written, each behind the next pointer that is for
-/// writing, what changes beside, how many bytes of the input it takes, and its piece for the console.
-#[derive(Drop)]
-pub struct Done {
-    pub values: Vec<Argument>,
-    pub parts: Vec<Bytes>,
-    pub edits: Vec<Edit>,
-    pub read: usize,
-    pub piece: Vec<u8>,
-}
-
 /// How a call comes out.
 #[derive(Drop)]
 pub enum Outcome {
     /// An error, with the values of its line.
     Fails(u16, Vec<Argument>),
     Does(Done),
+    /// The call waits: all stays as it is.
+    Waits,
     /// The process ends, by this action, with this code.
     Leaves(u16, u16),
 }
@@ -317,6 +307,10 @@ impl World {
             20 => self.on_heap(alloc, n, process, service, slots, a[2], a),
             21 => self.on_heap(alloc, n, process, service, slots, a[3], a),
             22 => self.on_heap(alloc, n, process, service, slots, a[2], a),
+            25 => self.requesting(alloc, n, process, a),
+            26 => clearing(alloc),
+            27 => self.waiting(alloc, n, process, a),
+            28 => setting(alloc),
             _ => Ok(Outcome::Fails(0, Vec::new(alloc))),
         }
     }

@@ -1,99 +1,17 @@
-// Ranges behind the pointers that a call is given.
-ghost use Rattle.std.specs.Prelude.{◌≡◌, ◌+◌, ◌≤◌, ℕ, length, take, drop, nat_le, option_map, IfOk, if◌then◌else◌};
-ghost use Rattle.std.specs.Option.{option_copied};
-ghost use Rattle.o2_isa.specs.View.{bound_in};
-ghost use Rattle.o2_isa.specs.Pointers.{may_read, may_write, range_of};
-ghost use Rattle.o2_isa.specs.Parts.{put_part};
+// What lies behind the pointers of a process's call.
+ghost use Rattle.std.specs.Prelude.{◌≡◌, IfOk, slice_index};
+ghost use Rattle.std.specs.List.{list_all};
+ghost use Rattle.o2_isa.specs.Pointers.{range_of};
+ghost use Rattle.o2_world.specs.SharedNames.{name_by, text_at};
 ghost use Rattle.o2_world.specs.Slots.{may_have_heap};
-ghost use Rattle.o2_world.specs.Views.{view_of, hold_of, holds_in, segment_bytes, bytes_in, with_bytes};
-ghost use Rattle.o2_boundless.specs.Effects.{written, is_behind, reaches};
+ghost use Rattle.o2_world.specs.Views.{bytes_in, holds_in, view_of};
+ghost use Rattle.o2_world_parts.specs.Layouts.{good_by};
 
-use crate::look::{held_under, segment_of};
-use crate::rulings::{is_local, is_null};
-use crate::{Held, Process, Segment, World};
+use crate::World;
 use o2_base::{Bytes, NoMemory};
-use o2_desc::Access;
-use o2_isa::Cpu;
+use o2_world::Slot;
+use o2_world_parts::{Process, are_good, front, may_have_heap, name_at, range};
 use std::alloc::Global;
-
-/// What a segment register with this selector holds.
-pub(crate) fn bound(held: &[(u16, Held)], selector: u16) -> Option<&Held>
-    ensures { option_map hold_of (option_copied result) ≡ bound_in (holds_in held.now) selector }
-{
-    if is_null(selector) || !is_local(selector) {
-        None
-    } else {
-        held_under(held, selector / 8)
-    }
-}
-
-/// Whether so many bytes from an offset on are those of a name.
-#[tactic(auto, using(crate::proofs::Pointers::bytes))]
-fn has_bytes(names: &[(u64, Segment)], name: u64, offset: u16, count: u32) -> bool
-    ensures { result ≡ nat_le (offset + count) (length (bytes_in names.now name)) }
-{
-    let end = offset as usize + count as usize;
-    match segment_of(names, name) {
-        None => end == 0,
-        Some(segment) => end <= segment.size(),
-    }
-}
-
-/// Whether so many bytes from an offset on lie in what is held, which may be written, or else read.
-fn reaches(
-    names: &[(u64, Segment)],
-    writes: bool,
-    offset: u16,
-    count: u32,
-    held: Option<&Held>,
-) -> bool
-    ensures { result ≡ reaches (bytes_in names.now) writes offset count (option_map hold_of (option_copied held.entry)) }
-{
-    match held {
-        None => false,
-        Some(held) => {
-            Access(held.rights).is_readable()
-                && ((!writes || Access(held.rights).is_writable())
-                    && has_bytes(names, held.name, offset, count))
-        }
-    }
-}
-
-/// Whether a pointer is good to write through.
-#[tactic(auto, using(crate::proofs::Pointers::good))]
-fn may_write(
-    names: &[(u64, Segment)],
-    process: &Process,
-    selector: u16,
-    offset: u16,
-    count: u32,
-) -> bool
-    ensures { result ≡ may_write (view_of names.now process.now) selector offset count }
-{
-    count == 0 || reaches(names, true, offset, count, bound(&process.held, selector))
-}
-
-/// Whether a pointer is good to read through.
-#[tactic(auto, using(crate::proofs::Pointers::good))]
-fn may_read(
-    names: &[(u64, Segment)],
-    process: &Process,
-    selector: u16,
-    offset: u16,
-    count: u32,
-) -> bool
-    ensures { result ≡ may_read (view_of names.now process.now) selector offset count }
-{
-    count == 0 || reaches(names, false, offset, count, bound(&process.held, selector))
-}
-
-/// Whether a heap may lie behind a selector.
-#[tactic(auto, using(crate::proofs::Pointers::heaps))]
-fn may_have_heap(names: &[(u64, Segment)], process: &Process, selector: u16) -> bool
-    ensures { result ≡ may_have_heap (view_of names.now process.now) selector }
-{
-    reaches(names, true, 0, 0, bound(&process.held, selector))
-}
 
 impl World {
     /// Whether a heap may lie behind a selector of a process.
@@ -116,26 +34,6 @@ impl World {
         front(alloc, &self.names, process, selector, most)
     }
 
-    /// Whether a pointer of a process is good to write through.
-    pub(crate) fn may_write(
-        &self,
-        process: &Process,
-        selector: u16,
-        offset: u16,
-        count: u32,
-    ) -> bool
-        ensures { result ≡ may_write (view_of self.now.world.names process.now) selector offset count }
-    {
-        may_write(&self.names, process, selector, offset, count)
-    }
-
-    /// Whether a pointer of a process is good to read through.
-    pub(crate) fn may_read(&self, process: &Process, selector: u16, offset: u16, count: u32) -> bool
-        ensures { result ≡ may_read (view_of self.now.world.names process.now) selector offset count }
-    {
-        may_read(&self.names, process, selector, offset, count)
-    }
-
     /// The bytes of a range of a process, which lies in its segment.
     pub(crate) fn range(
         &self,
@@ -149,205 +47,30 @@ impl World {
     {
         range(alloc, &self.names, process, selector, offset, count)
     }
-}
 
-/// The registers of a process.
-pub(crate) fn registers(process: &Process) -> Cpu
-    ensures { result ≡ process.now.cpu }
-{
-    process.cpu
-}
-
-fn copied_bytes(alloc: Global, segment: Option<&Segment>) -> Result<Vec<u8>, NoMemory>
-    ensures { IfOk result (λ v. v.items ≡ segment_bytes (option_copied segment.entry)) }
-{
-    match segment {
-        None => Ok(Vec::new(alloc)),
-        Some(segment) => Ok(Vec::from_slice(alloc, &segment.bytes)?),
+    /// Whether all pointers of a call are good.
+    pub(crate) fn are_good(
+        &self,
+        alloc: Global,
+        process: &Process,
+        slots: &[(Slot, u16)],
+        words: &[u16],
+    ) -> Result<bool, NoMemory>
+        ensures { IfOk result (λ g. g ≡ list_all (good_by (view_of self.now.world.names process.now) (slice_index words.now)) slots.now) }
+    {
+        are_good(alloc, &self.names, process, slots, words)
     }
-}
 
-pub(crate) fn bytes_of(
-    alloc: Global,
-    names: &[(u64, Segment)],
-    name: u64,
-) -> Result<Vec<u8>, NoMemory>
-    ensures { IfOk result (λ v. v.items ≡ bytes_in names.now name) }
-{
-    copied_bytes(alloc, segment_of(names, name))
-}
-
-fn part_of(alloc: Global, bytes: &[u8], offset: u16, count: u16) -> Result<Vec<u8>, NoMemory>
-    ensures { IfOk result (λ v. v.items ≡ take count (drop offset bytes.now)) }
-{
-    let from = offset as usize;
-    let to = from + count as usize;
-    if to > bytes.len() {
-        return Err(NoMemory);
+    /// The name that the text behind a pointer gives, folded, where it is one.
+    pub(crate) fn name_at(
+        &self,
+        alloc: Global,
+        process: &Process,
+        selector: u16,
+        offset: u16,
+    ) -> Result<Option<Bytes>, NoMemory>
+        ensures { IfOk result (λ n. n ≡ name_by (text_at (view_of self.now.world.names process.now) selector offset)) }
+    {
+        name_at(alloc, &self.names, process, selector, offset)
     }
-    Ok(Vec::from_slice(alloc, &bytes[from..to])?)
-}
-
-/// The bytes of a range, which lies in its segment.
-#[tactic(auto, unfolding(o2_isa::specs::Pointers::range_of), using(crate::proofs::Pointers::ranges))]
-fn range(
-    alloc: Global,
-    names: &[(u64, Segment)],
-    process: &Process,
-    selector: u16,
-    offset: u16,
-    count: u16,
-) -> Result<Vec<u8>, NoMemory>
-    ensures { IfOk result (λ v. v.items ≡ range_of (holds_in process.now.held) (bytes_in names.now) selector offset count) }
-{
-    if count == 0 {
-        return Ok(Vec::new(alloc));
-    }
-    match bound(&process.held, selector) {
-        None => Ok(Vec::new(alloc)),
-        Some(held) => {
-            let bytes = bytes_of(alloc, names, held.name)?;
-            part_of(alloc, &bytes, offset, count)
-        }
-    }
-}
-
-/// The first bytes, or all of fewer.
-#[tactic(auto, using(std::proofs::lemmas::List::take_all))]
-pub(crate) fn first(bytes: &[u8], count: u16) -> &[u8]
-    ensures front { result.now ≡ take count bytes.now }
-    ensures most { length result.now ≤ count }
-{
-    if (count as usize) < bytes.len() {
-        &bytes[..count as usize]
-    } else {
-        bytes
-    }
-}
-
-/// The first bytes of a segment, so many at most.
-#[tactic(auto, unfolding(o2_isa::specs::Pointers::range_of), using(crate::proofs::Pointers::ranges))]
-fn front(
-    alloc: Global,
-    names: &[(u64, Segment)],
-    process: &Process,
-    selector: u16,
-    most: u16,
-) -> Result<Vec<u8>, NoMemory>
-    ensures { IfOk result (λ v. v.items ≡ range_of (holds_in process.now.held) (bytes_in names.now) selector 0 most) }
-{
-    if most == 0 {
-        return Ok(Vec::new(alloc));
-    }
-    match bound(&process.held, selector) {
-        None => Ok(Vec::new(alloc)),
-        Some(held) => {
-            let bytes = bytes_of(alloc, names, held.name)?;
-            Ok(Vec::from_slice(alloc, first(&bytes, most))?)
-        }
-    }
-}
-
-// What is written.
-
-fn put_part(alloc: Global, bytes: &[u8], at: u16, part: &[u8]) -> Result<Vec<u8>, NoMemory>
-    ensures { IfOk result (λ v. v.items ≡ put_part bytes.now at part.now) }
-{
-    let from = at as usize;
-    if from > bytes.len() || part.len() > bytes.len() - from {
-        return Err(NoMemory);
-    }
-    let mut after = Vec::from_slice(alloc, &bytes[..from])?;
-    after.extend_from_slice(part)?;
-    after.extend_from_slice(&bytes[from + part.len()..])?;
-    Ok(after)
-}
-
-fn is_name(held: Option<&Held>, name: u64) -> bool
-    ensures { result ≡ is_behind (option_map hold_of (option_copied held.entry)) name }
-{
-    match held {
-        None => false,
-        Some(held) => name == held.name,
-    }
-}
-
-fn is_behind(held: &[(u16, Held)], selector: u16, name: u64) -> bool
-    ensures { result ≡ is_behind (bound_in (holds_in held.now) selector) name }
-{
-    is_name(bound(held, selector), name)
-}
-
-fn put_behind(
-    alloc: Global,
-    behind: bool,
-    bytes: &[u8],
-    offset: u16,
-    part: &[u8],
-) -> Result<Vec<u8>, NoMemory>
-    ensures { IfOk result (λ v. v.items ≡ (if behind then put_part bytes.now offset part.now else bytes.now)) }
-{
-    if behind {
-        put_part(alloc, bytes, offset, part)
-    } else {
-        Ok(Vec::from_slice(alloc, bytes)?)
-    }
-}
-
-fn bytes_after(
-    alloc: Global,
-    names: &[(u64, Segment)],
-    held: &[(u16, Held)],
-    targets: &[(u16, u16)],
-    parts: &[Bytes],
-    name: u64,
-) -> Result<Vec<u8>, NoMemory>
-    ensures { IfOk result (λ v. v.items ≡ written (holds_in held.now) targets.now parts.now (bytes_in names.now) name) }
-{
-    let mut bytes = bytes_of(alloc, names, name)?;
-    let count = targets.len().min(parts.len());
-    for k in 0..count {
-        let target = targets[k];
-        let part = parts[k].as_slice();
-        let behind = is_behind(held, target.0, name);
-        bytes = put_behind(alloc, behind, &bytes, target.1, part)?;
-    }
-    Ok(bytes)
-}
-
-fn with(segment: &Segment, bytes: Vec<u8>) -> Result<Segment, NoMemory>
-    ensures { IfOk result (λ s. s ≡ record segment.now { bytes = bytes.items }) }
-{
-    if bytes.len() > 65536 {
-        return Err(NoMemory);
-    }
-    Ok(Segment {
-        bytes,
-        clean: segment.clean,
-        code: segment.code,
-        flags: segment.flags,
-        lock: segment.lock,
-        shared: segment.shared,
-        discarded: segment.discarded,
-    })
-}
-
-/// The names behind what is written.
-#[tactic(auto, using(crate::proofs::Writing::rewriting, std::proofs::lemmas::Grind::common_steps))]
-pub(crate) fn with_parts(
-    alloc: Global,
-    names: &[(u64, Segment)],
-    held: &[(u16, Held)],
-    targets: &[(u16, u16)],
-    parts: &[Bytes],
-) -> Result<Vec<(u64, Segment)>, NoMemory>
-    ensures { IfOk result (λ v. v.items ≡ with_bytes names.now (written (holds_in held.now) targets.now parts.now (bytes_in names.now))) }
-{
-    let mut after = Vec::new(alloc);
-    for pair in names {
-        let bytes = bytes_after(alloc, names, held, targets, parts, pair.0)?;
-        let segment = with(&pair.1, bytes)?;
-        after.push((pair.0, segment))?;
-    }
-    Ok(after)
 }

@@ -24,7 +24,7 @@ fn make_row(name: &'static [u8], slots: &'static [Slot]) -> Option<Row>
 pub(crate) fn row_of(service: u16) -> Option<Row>
     ensures { shape_in result ≡ shape_by (row_of service) }
 {
-    use Slot::{Heap, Reads, Text, ToLong, ToWord, ToWords, Word, Writes};
+    use Slot::{Heap, Long, Reads, Text, ToLong, ToWord, ToWords, Word, Writes};
     match service {
         1 => make_row(b"DosExit", &[Word, Word]),
         2 => make_row(b"DosGetPID", &[ToWords(3)]),
@@ -48,6 +48,10 @@ pub(crate) fn row_of(service: u16) -> Option<Row>
         20 => make_row(b"DosSubSet", &[Heap, Word, Word]),
         21 => make_row(b"DosSubAlloc", &[Heap, ToWord, Word]),
         22 => make_row(b"DosSubFree", &[Heap, Word, Word]),
+        25 => make_row(b"DosSemRequest", &[ToWords(2), Long]),
+        26 => make_row(b"DosSemClear", &[ToWords(2)]),
+        27 => make_row(b"DosSemWait", &[ToWords(2), Long]),
+        28 => make_row(b"DosSemSet", &[ToWords(2)]),
         _ => None,
     }
 }

@@ -12,15 +12,14 @@ ghost use Rattle.o2_world.specs.Rulings.{sizing, is_discardable, locking_with, l
 ghost use Rattle.o2_world.specs.Rulings.{aliasing_of, aliasing};
 ghost use Rattle.o2_world.specs.Known.{marks_of};
 ghost use Rattle.o2_boundless.specs.Shown.{known_by};
-ghost use Rattle.o2_boundless.specs.Edits.{changes_of};
+ghost use Rattle.o2_world_parts.specs.Edits.{changes_of};
 ghost use Rattle.o2_boundless.specs.Verdicts.{ruling_of, marks_in};
 
-use crate::changing::Edit;
-use crate::look::{held_by, segment_of};
-use crate::{Held, How, Segment, World};
+use crate::World;
 use o2_base::NoMemory;
 use o2_desc::Access;
 use o2_isa::Cpu;
+use o2_world_parts::{Edit, Held, How, Segment, held_by, is_local, is_null, segment_of};
 use std::alloc::Global;
 
 /// What a call comes to.
@@ -70,18 +69,6 @@ pub(crate) fn two(alloc: Global, first: Edit, second: Edit) -> Result<Vec<Edit>,
 }
 
 // Selectors.
-
-pub(crate) fn is_null(selector: u16) -> bool
-    ensures { result ≡ is_null selector }
-{
-    selector < 4
-}
-
-pub(crate) fn is_local(selector: u16) -> bool
-    ensures { result ≡ is_local selector }
-{
-    selector / 4 % 2 == 1
-}
 
 pub(crate) fn is_index(selector: u16, index: u16) -> bool
     ensures { result ≡ is_index selector index }

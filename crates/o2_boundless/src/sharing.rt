@@ -6,18 +6,16 @@ ghost use Rattle.o2_world.specs.SharedRulings.{each_more, getting, getting_at, g
 ghost use Rattle.o2_world.specs.SharedNames.{name_by, text_at};
 ghost use Rattle.o2_world.specs.Views.{view_of};
 ghost use Rattle.o2_boundless.specs.Shown.{known_by};
-ghost use Rattle.o2_boundless.specs.Edits.{changes_of};
+ghost use Rattle.o2_world_parts.specs.Edits.{changes_of};
 ghost use Rattle.o2_boundless.specs.Verdicts.{ruling_of, marks_in};
 ghost use Rattle.o2_boundless.specs.Sharing.{holder_among, is_share_at, lacks_at};
 
-use crate::changing::Edit;
-use crate::look::{held_by, is_alive, is_held_under};
-use crate::naming::name_of;
-use crate::rulings::{
-    Verdict, by_load, grants, held_by_call, is_later, is_local, made_segment, refusal,
-};
-use crate::{Held, How, Process, Segment, World};
+use crate::World;
+use crate::rulings::{Verdict, by_load, grants, held_by_call, is_later, made_segment, refusal};
 use o2_base::{Bytes, NoMemory};
+use o2_world_parts::{
+    Edit, Held, How, Process, Segment, held_by, is_alive, is_held_under, is_local, name_of,
+};
 use std::alloc::Global;
 
 /// The first process that holds an index, by its number.

@@ -4,18 +4,16 @@ ghost use Rattle.o2_world.specs.World.{is_live};
 ghost use Rattle.o2_world.specs.Changes.{Finishes};
 ghost use Rattle.o2_world.specs.CallParts.{Effect as WorldEffect};
 ghost use Rattle.o2_boundless.specs.Called.{behind_effect};
-ghost use Rattle.o2_boundless.specs.Edits.{changes_of};
-ghost use Rattle.o2_boundless.specs.Effects.{IsEffect};
+ghost use Rattle.o2_world_parts.specs.Edits.{changes_of};
+ghost use Rattle.o2_world_parts.specs.Effects.{IsEffect};
 ghost use Rattle.o2_boundless.specs.Shown.{before_call};
 ghost use Rattle.o2_boundless.specs.Worked.{with_state, with_parts, with_worker, with_input, with_console, with_report, worked_by};
 
-use crate::changing::Edit;
-use crate::effect::Effect;
-use crate::pointing::with_parts;
-use crate::{Process, World};
+use crate::World;
 use o2_base::{Bytes, NoMemory};
 use o2_isa::Cpu;
 use o2_world::State;
+use o2_world_parts::{Edit, Effect, Process, with_parts};
 use std::alloc::Global;
 
 pub(crate) fn is_live(state: State) -> bool

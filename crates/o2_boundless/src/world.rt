@@ -2,9 +2,9 @@
 ghost use Rattle.std.specs.Prelude.{◌≡◌, IfOk};
 ghost use Rattle.o2_boundless.specs.Bare.{bare_world};
 
-use crate::{Process, Reserve, Segment};
 use o2_base::{Bytes, NoMemory};
 use o2_conf::Script;
+use o2_world_parts::{Process, Reserve, Segment};
 use std::alloc::Global;
 use std::marker::Model;
 

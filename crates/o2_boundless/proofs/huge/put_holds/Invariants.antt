@@ -1,6 +1,6 @@
 use Rattle.std.proofs.Common.{◌≡◌, ◌++◌, take}
 use Rattle.o2_world.specs.HugeRulings.{all_hold}
-use Rattle.o2_boundless.specs.Edits.{changes_of}
+use Rattle.o2_world_parts.specs.Edits.{changes_of}
 use Rattle.o2_boundless.proofs.huge.put_holds.Given as goal
 
 abbrev pub invariant-loop-k : goal.invariant-loop-k

@@ -1,5 +1,5 @@
 use Rattle.o2_world.specs.declared.types.Slot.TheVariants.{Word}
-use Rattle.o2_boundless.proofs.Placed.{valued_behind}
+use Rattle.o2_world_parts.proofs.Placed.{valued_behind}
 use Rattle.o2_boundless.proofs.outcome.by_heap.Goals as goal
 
 pub loop-slot-preserved : goal.loop-slot-preserved

@@ -1,6 +1,6 @@
 use Rattle.std.proofs.Common.{◌≡◌, ℕ, map, take}
 use Rattle.o2_world.specs.Changes.{Drops}
-use Rattle.o2_boundless.specs.Edits.{changes_of}
+use Rattle.o2_world_parts.specs.Edits.{changes_of}
 use Rattle.o2_boundless.proofs.rulings.drops.Given as goal
 
 abbrev pub invariant-loop-index : goal.invariant-loop-index

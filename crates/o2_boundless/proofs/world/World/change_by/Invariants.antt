@@ -1,6 +1,6 @@
 use Rattle.std.proofs.Common.{◌≡◌, take}
 use Rattle.o2_world.specs.Changes.{with_changes}
-use Rattle.o2_boundless.specs.Edits.{changes_of}
+use Rattle.o2_world_parts.specs.Edits.{changes_of}
 use Rattle.o2_boundless.proofs.world.World.change_by.Given as goal
 
 abbrev pub invariant-loop-edit : goal.invariant-loop-edit

@@ -1,6 +1,6 @@
 use Rattle.std.proofs.Common.{◌≡◌, ◌++◌, take}
 use Rattle.o2_world.specs.HugeRulings.{resized_members}
-use Rattle.o2_boundless.specs.Edits.{changes_of}
+use Rattle.o2_world_parts.specs.Edits.{changes_of}
 use Rattle.o2_boundless.specs.Shown.{known_by}
 use Rattle.o2_boundless.proofs.world.World.put_resized_members.Given as goal
 

@@ -1,5 +1,5 @@
 use Rattle.std.proofs.Common.{ap}
-use Rattle.o2_boundless.specs.Edits.{changes_of}
+use Rattle.o2_world_parts.specs.Edits.{changes_of}
 use Rattle.o2_boundless.proofs.Behind.{behind_ok}
 use Rattle.o2_boundless.proofs.world.World.take_effect.Goals as goal
 

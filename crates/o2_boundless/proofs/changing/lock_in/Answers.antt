@@ -1,7 +1,0 @@
-use Rattle.std.proofs.Common.{arith}
-use Rattle.o2_boundless.specs.Pairs.{with_lock}
-use Rattle.o2_boundless.proofs.Mapped.{keyed_set}
-use Rattle.o2_boundless.proofs.changing.lock_in.Goals as goal
-
-pub loop-k-preserved : goal.loop-k-preserved
-loop-k-preserved c = keyed_set c.args.name (with_lock c.args.count) c.args.names.now.items c.loop-k.names.items c.loop-k.k c.index_mut.result.now c.lock_pair.new.pair (omega arith) c.loop-k.invariant c.index_mut.ensures.value c.lock_pair.ensures

@@ -1,0 +1,9 @@
+pub mod Lookups
+pub mod Mapped
+pub mod Places
+pub mod Names
+pub mod Pointers
+pub mod Writing
+pub mod Telling
+pub mod Placed
+pub mod Coming
