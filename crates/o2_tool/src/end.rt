@@ -2,8 +2,8 @@
 ghost use Rattle.std.specs.Prelude.{◌≡◌, MatchResult};
 ghost use Rattle.std.specs.Process.{exit_status};
 
-use std::io;
 use std::process::ExitCode;
+use std::{fmt, io};
 
 /// The status of a program that said why something is refused.
 pub const REFUSED: u8 = 1;
@@ -17,8 +17,8 @@ pub const FAILED: u8 = 3;
 /// The system's number of the error that a write to a pipe gives where nobody reads any more.
 const EPIPE: i32 = 32;
 
-/// Whether an error is that of a pipe that nobody reads any more, as behind `| head`. An `anyhow::Error` has its text alone.
-fn is_closed_pipe(rt: &HostRuntime, error: &anyhow::Error) -> bool {
+/// Whether an error is that of a pipe that nobody reads any more, as behind `| head`. An error may have its text alone, as an `anyhow::Error` has.
+fn is_closed_pipe<E: fmt::Display>(rt: &HostRuntime, error: &E) -> bool {
     let closed = io::Error::from_raw_os_error(EPIPE);
     let Ok(text) = format!(in rt.alloc(); "{error}") else {
         return false;
@@ -30,7 +30,11 @@ fn is_closed_pipe(rt: &HostRuntime, error: &anyhow::Error) -> bool {
 }
 
 /// The end of a program: its status, or 3 with a line on the standard error. Nothing is said where nobody reads the output any more.
-pub fn ended(rt: &HostRuntime, name: &str, done: anyhow::Result<ExitCode>) -> ExitCode
+pub fn ended<E: fmt::Display + Drop>(
+    rt: &HostRuntime,
+    name: &str,
+    done: Result<ExitCode, E>,
+) -> ExitCode
     ensures { MatchResult done (λ code. result ≡ code) (λ _. exit_status result ≡ FAILED) }
 {
     match done {

@@ -1,5 +1,5 @@
 -- Parts of a memory, one behind the other.
-use Rattle.std.proofs.Common.{◌≡◌, ℕ, ◌≤◌, List, [], ◌∷◌, ◌++◌, Option, Some, None, refl, sym, ◌∙◌}
+use Rattle.std.proofs.Common.{◌≡◌, ℕ, ◌≤◌, List, [], ◌∷◌, ◌++◌, Option, None, refl, sym, ◌∙◌}
 use Rattle.os2core.specs.declared.spans.Span.{Span}
 use Rattle.os2core.specs.Adjoining.{Adjoin}
 

@@ -3,6 +3,7 @@
 use crate::facts::Told;
 use crate::segment::bytes_of;
 use o2_dump::{Core, Held, Process};
+use o2_tool::unallocated;
 use std::alloc::{AllocError, Global};
 use std::io;
 use std::process::ExitCode;
@@ -54,10 +55,12 @@ fn tell(
     (word, number, part): (&str, u32, &str),
     one: Told<'_>,
     other: Option<Told<'_>>,
-) -> anyhow::Result<u64> {
+) -> io::Result<u64> {
     if let Some(other) = other {
-        if is_same(rt.alloc(), one, other)? {
-            return Ok(0);
+        match is_same(rt.alloc(), one, other) {
+            Ok(false) => {}
+            Ok(true) => return Ok(0),
+            Err(_) => return Err(unallocated()),
         }
     }
     println!(rt; "{mark} {word} {number}{part} {one}")?;
@@ -65,7 +68,7 @@ fn tell(
 }
 
 /// The segments.
-fn tell_segments(rt: &HostRuntime, mark: &str, one: &Core, other: &Core) -> anyhow::Result<u64> {
+fn tell_segments(rt: &HostRuntime, mark: &str, one: &Core, other: &Core) -> io::Result<u64> {
     let mut count = 0u64;
     let mut number = 0u32;
     for entry in one.segments.as_slice() {
@@ -98,7 +101,7 @@ fn tell_held(
     mark: &str,
     one: &Process,
     other: Option<&Process>,
-) -> anyhow::Result<u64> {
+) -> io::Result<u64> {
     let line = ("process", u32::from(one.number), ":");
     let mut count = 0u64;
     for held in one.held.as_slice() {
@@ -114,7 +117,7 @@ fn tell_process(
     mark: &str,
     one: &Process,
     other: Option<&Process>,
-) -> anyhow::Result<u64> {
+) -> io::Result<u64> {
     let number = u32::from(one.number);
     let (state, words, pointers) = match other {
         Some(other) => (
@@ -148,7 +151,7 @@ fn process_of(core: &Core, number: u16) -> Option<&Process> {
 }
 
 /// The lines of an image that the other has otherwise or doesn't have, behind a mark; how many there are.
-fn tell_lines(rt: &HostRuntime, mark: &str, one: &Core, other: &Core) -> anyhow::Result<u64> {
+fn tell_lines(rt: &HostRuntime, mark: &str, one: &Core, other: &Core) -> io::Result<u64> {
     let head = tell_head(rt, mark, one, other)?;
     let mut count = head.saturating_add(tell_segments(rt, mark, one, other)?);
     for process in one.processes.as_slice() {
@@ -182,24 +185,29 @@ fn list_bytes(rt: &HostRuntime, number: u32, old: &[u8], new: &[u8]) -> io::Resu
     Ok(count)
 }
 
+/// The bytes of a segment, where they differ from those of the second image; how many do, or none where that doesn't have it.
+fn list_second(rt: &HostRuntime, number: u32, one: &[u8], new: &Core) -> io::Result<Option<u64>> {
+    match bytes_of(rt, new, number) {
+        Ok(Some(other)) => match list_bytes(rt, number, one, other.as_slice()) {
+            Ok(count) => Ok(Some(count)),
+            Err(error) => Err(error),
+        },
+        Ok(None) => Ok(None),
+        Err(error) => Err(error),
+    }
+}
+
 /// The bytes of a segment, where they differ; how many do, or none where one image doesn't have it.
-fn list_content(
-    rt: &HostRuntime,
-    number: u32,
-    old: &Core,
-    new: &Core,
-) -> anyhow::Result<Option<u64>> {
-    let Some(one) = bytes_of(rt, old, number)? else {
-        return Ok(None);
-    };
-    match bytes_of(rt, new, number)? {
-        Some(other) => Ok(Some(list_bytes(rt, number, one.as_slice(), other.as_slice())?)),
-        None => Ok(None),
+fn list_content(rt: &HostRuntime, number: u32, old: &Core, new: &Core) -> io::Result<Option<u64>> {
+    match bytes_of(rt, old, number) {
+        Ok(Some(one)) => list_second(rt, number, one.as_slice(), new),
+        Ok(None) => Ok(None),
+        Err(error) => Err(error),
     }
 }
 
 /// The bytes of the segments that both images have, where they differ; how many do.
-fn list_contents(rt: &HostRuntime, old: &Core, new: &Core) -> anyhow::Result<u64> {
+fn list_contents(rt: &HostRuntime, old: &Core, new: &Core) -> io::Result<u64> {
     let mut count = 0u64;
     for number in 0..u32::MAX {
         match list_content(rt, number, old, new)? {
@@ -211,7 +219,7 @@ fn list_contents(rt: &HostRuntime, old: &Core, new: &Core) -> anyhow::Result<u64
 }
 
 /// What differs: lines of the first image behind `-`, lines of the second behind `+`, and bytes of segments.
-pub fn list(rt: &HostRuntime, old: &Core, new: &Core) -> anyhow::Result<ExitCode> {
+pub fn list(rt: &HostRuntime, old: &Core, new: &Core) -> io::Result<ExitCode> {
     let gone = tell_lines(rt, "-", old, new)?;
     let come = tell_lines(rt, "+", new, old)?;
     let bytes = list_contents(rt, old, new)?;

@@ -3,8 +3,8 @@
 use o2_base::{Bytes, Fail};
 use o2_dump::{Core, CoreFault};
 use o2_outer::{Fetch, Files, FolderFiles};
-use o2_tool::file_name;
-use std::fmt;
+use o2_tool::{file_name, unallocated};
+use std::{fmt, io};
 
 /// What a file came to.
 #[derive(Drop)]
@@ -42,16 +42,23 @@ fn image_of(rt: &HostRuntime, file: &Bytes) -> Opened {
     }
 }
 
-/// The image in the file of this name, which is a word of the command.
-pub fn open(rt: &HostRuntime, word: &str) -> anyhow::Result<Opened> {
-    let name = file_name(rt.alloc(), word)?;
-    Ok(match fetched(rt, &name) {
+/// The image in the file of this name.
+fn open_named(rt: &HostRuntime, name: &Bytes) -> Opened {
+    match fetched(rt, name) {
         Fetch::Got(file) => image_of(rt, &file),
         Fetch::NoFile => Opened::NoFile,
         Fetch::TooLong => Opened::TooLong,
         Fetch::Failed => Opened::Failed,
         Fetch::NoMemory => Opened::NoMemory,
-    })
+    }
+}
+
+/// The image in the file of this name, which is a word of the command.
+pub fn open(rt: &HostRuntime, word: &str) -> io::Result<Opened> {
+    match file_name(rt.alloc(), word) {
+        Ok(name) => Ok(open_named(rt, &name)),
+        Err(_) => Err(unallocated()),
+    }
 }
 
 /// Why a file is refused, as a sentence.

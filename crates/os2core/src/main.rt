@@ -2,7 +2,6 @@
 #![tactic(auto)]
 
 mod changes;
-mod command;
 mod drawn;
 mod facts;
 mod holders;
@@ -14,21 +13,25 @@ mod segment;
 mod spans;
 mod tables;
 
-use clap::ArgMatches;
 use holders::Holder;
 use image::{Opened, open};
 use o2_dump::Core;
-use o2_tool::{FAILED, MISUSED, REFUSED, Shown, answered, ended, words};
+use o2_tool::{
+    CoreWords, FAILED, MISUSED, REFUSED, Shown, core_words, ended, no_memory, unallocated, words,
+};
+use std::io;
 use std::process::ExitCode;
 
 /// The image as text: the memory, the segments that aren't in it, the swap device, and the processes.
-fn show(rt: &HostRuntime, core: &Core) -> anyhow::Result<ExitCode> {
-    let holders = holders::holders(rt.alloc(), core)?;
-    show_tables(rt, core, holders.as_slice())
+fn show(rt: &HostRuntime, core: &Core) -> io::Result<ExitCode> {
+    match holders::holders(rt.alloc(), core) {
+        Ok(holders) => show_tables(rt, core, holders.as_slice()),
+        Err(_) => Err(unallocated()),
+    }
 }
 
 /// The tables of an image, whose segments are held so.
-fn show_tables(rt: &HostRuntime, core: &Core, holders: &[Holder]) -> anyhow::Result<ExitCode> {
+fn show_tables(rt: &HostRuntime, core: &Core, holders: &[Holder]) -> io::Result<ExitCode> {
     tables::list_head(rt, core)?;
     tables::list_memory(rt, core, holders)?;
     tables::list_absent(rt, core, holders)?;
@@ -38,7 +41,7 @@ fn show_tables(rt: &HostRuntime, core: &Core, holders: &[Holder]) -> anyhow::Res
 }
 
 /// The end where a file isn't shown, which says why.
-fn unread(rt: &HostRuntime, word: &str, why: &Opened) -> anyhow::Result<ExitCode> {
+fn unread(rt: &HostRuntime, word: &str, why: &Opened) -> io::Result<ExitCode> {
     let name = Shown(word.as_bytes());
     match why {
         Opened::Refused(fault) => {
@@ -60,39 +63,40 @@ fn unread(rt: &HostRuntime, word: &str, why: &Opened) -> anyhow::Result<ExitCode
             eprintln!(rt; "os2core: the file {name} can't be read")?;
             Ok(ExitCode::from(FAILED))
         }
-        _ => anyhow::bail!("there is no memory"),
+        _ => Err(no_memory()),
     }
 }
 
+/// What is shown of an image.
+#[derive(Clone, Copy)]
+enum View<'a> {
+    /// All of it, as text.
+    Text,
+    /// A picture.
+    Picture,
+    /// The bytes of the segment of this number.
+    Segment(&'a str),
+}
+
 /// Shows an image.
-fn shown(
-    rt: &HostRuntime,
-    verb: &str,
-    core: &Core,
-    found: &ArgMatches<'_>,
-) -> anyhow::Result<ExitCode> {
-    match verb {
-        "show" => show(rt, core),
-        "svg" => picture::draw(rt, core),
-        _ => segment::list(rt, core, found.get_str("NUMBER").unwrap_or("")),
+fn shown(rt: &HostRuntime, core: &Core, view: View<'_>) -> io::Result<ExitCode> {
+    match view {
+        View::Text => show(rt, core),
+        View::Picture => picture::draw(rt, core),
+        View::Segment(number) => segment::list(rt, core, number),
     }
 }
 
 /// Shows the image in a file.
-fn show_one(
-    rt: &HostRuntime,
-    verb: &str,
-    word: &str,
-    found: &ArgMatches<'_>,
-) -> anyhow::Result<ExitCode> {
+fn show_one(rt: &HostRuntime, word: &str, view: View<'_>) -> io::Result<ExitCode> {
     match open(rt, word)? {
-        Opened::Core(core) => shown(rt, verb, &core, found),
+        Opened::Core(core) => shown(rt, &core, view),
         other => unread(rt, word, &other),
     }
 }
 
 /// Shows what differs in the image of a second file.
-fn compare_with(rt: &HostRuntime, old: &Core, second: &str) -> anyhow::Result<ExitCode> {
+fn compare_with(rt: &HostRuntime, old: &Core, second: &str) -> io::Result<ExitCode> {
     match open(rt, second)? {
         Opened::Core(new) => changes::list(rt, old, &new),
         other => unread(rt, second, &other),
@@ -100,37 +104,27 @@ fn compare_with(rt: &HostRuntime, old: &Core, second: &str) -> anyhow::Result<Ex
 }
 
 /// Shows what differs in the images of two files.
-fn compare(rt: &HostRuntime, first: &str, second: &str) -> anyhow::Result<ExitCode> {
+fn compare(rt: &HostRuntime, first: &str, second: &str) -> io::Result<ExitCode> {
     match open(rt, first)? {
         Opened::Core(old) => compare_with(rt, &old, second),
         other => unread(rt, first, &other),
     }
 }
 
-/// What the matched words ask for.
-fn obey(rt: &HostRuntime, matches: &ArgMatches<'_>) -> anyhow::Result<ExitCode> {
-    let Some((verb, found)) = matches.subcommand() else {
-        return Ok(ExitCode::SUCCESS);
-    };
-    let file = found.get_str("FILE").unwrap_or("");
-    if verb == "difference" {
-        compare(rt, file, found.get_str("OTHER").unwrap_or(""))
-    } else {
-        show_one(rt, verb, file, found)
+/// Does what these words ask for.
+fn obey(rt: &HostRuntime, words: &[String]) -> io::Result<ExitCode> {
+    match core_words(rt, words)? {
+        CoreWords::Show(file) => show_one(rt, file, View::Text),
+        CoreWords::Draw(file) => show_one(rt, file, View::Picture),
+        CoreWords::Segment(file, number) => show_one(rt, file, View::Segment(number)),
+        CoreWords::Difference(first, second) => compare(rt, first, second),
+        CoreWords::Answered(code) => Ok(code),
     }
 }
 
-/// Does what the words ask for.
-fn asked(rt: &HostRuntime, words: &[String]) -> anyhow::Result<ExitCode> {
-    match command::program(rt.alloc())?.try_get_matches_from(words) {
-        Ok(matches) => obey(rt, &matches),
-        Err(error) => Ok(answered(rt, &error)?),
-    }
-}
-
-fn run(rt: &HostRuntime) -> anyhow::Result<ExitCode> {
+fn run(rt: &HostRuntime) -> io::Result<ExitCode> {
     match words(rt, "os2core")? {
-        Some(words) => asked(rt, words.as_slice()),
+        Some(words) => obey(rt, words.as_slice()),
         None => Ok(ExitCode::from(MISUSED)),
     }
 }

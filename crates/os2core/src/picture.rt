@@ -5,6 +5,7 @@ use crate::holders::{Holder, holders};
 use crate::spans::{Span, spans};
 use crate::tables::{Use, uses};
 use o2_dump::{Core, Process};
+use o2_tool::unallocated;
 use std::io;
 use std::process::ExitCode;
 
@@ -118,12 +119,14 @@ fn draw_rows(rt: &HostRuntime, memory: u64, row: u64) -> io::Result<()> {
 }
 
 /// The memory, in rows of the same length.
-fn draw_memory(rt: &HostRuntime, core: &Core, holders: &[Holder]) -> anyhow::Result<()> {
+fn draw_memory(rt: &HostRuntime, core: &Core, holders: &[Holder]) -> io::Result<()> {
     let memory = core.memory.len() as u64;
     let row = memory.saturating_add(ROWS - 1) / ROWS;
     draw_rows(rt, memory, row)?;
-    let parts = spans(rt.alloc(), memory, core.segments.as_slice())?;
-    Ok(draw_spans(rt, core, holders, parts.as_slice(), row)?)
+    match spans(rt.alloc(), memory, core.segments.as_slice()) {
+        Ok(parts) => draw_spans(rt, core, holders, parts.as_slice(), row),
+        Err(_) => Err(unallocated()),
+    }
 }
 
 /// Where the swap device's row begins.
@@ -158,10 +161,12 @@ fn draw_row(rt: &HostRuntime) -> io::Result<()> {
 }
 
 /// The swap device, in one row below the memory.
-fn draw_blocks(rt: &HostRuntime, core: &Core, holders: &[Holder]) -> anyhow::Result<()> {
+fn draw_blocks(rt: &HostRuntime, core: &Core, holders: &[Holder]) -> io::Result<()> {
     draw_row(rt)?;
-    let uses = uses(rt, core)?;
-    Ok(draw_uses(rt, core, holders, uses.as_slice())?)
+    match uses(rt, core) {
+        Ok(uses) => draw_uses(rt, core, holders, uses.as_slice()),
+        Err(_) => Err(unallocated()),
+    }
 }
 
 /// Where the legend begins, how wide its columns are, and how many.
@@ -232,7 +237,7 @@ fn draw_front(rt: &HostRuntime, core: &Core) -> io::Result<()> {
 }
 
 /// The parts of the picture of an image, whose segments are held so.
-fn draw_all(rt: &HostRuntime, core: &Core, holders: &[Holder]) -> anyhow::Result<ExitCode> {
+fn draw_all(rt: &HostRuntime, core: &Core, holders: &[Holder]) -> io::Result<ExitCode> {
     draw_front(rt, core)?;
     draw_memory(rt, core, holders)?;
     draw_blocks(rt, core, holders)?;
@@ -242,7 +247,9 @@ fn draw_all(rt: &HostRuntime, core: &Core, holders: &[Holder]) -> anyhow::Result
 }
 
 /// The picture of an image: sixteen rows of memory, one of the swap device, and a legend.
-pub fn draw(rt: &HostRuntime, core: &Core) -> anyhow::Result<ExitCode> {
-    let holders = holders(rt.alloc(), core)?;
-    draw_all(rt, core, holders.as_slice())
+pub fn draw(rt: &HostRuntime, core: &Core) -> io::Result<ExitCode> {
+    match holders(rt.alloc(), core) {
+        Ok(holders) => draw_all(rt, core, holders.as_slice()),
+        Err(_) => Err(unallocated()),
+    }
 }

@@ -4,15 +4,15 @@ use crate::facts::Told;
 use crate::printable::Letters;
 use o2_base::Bytes;
 use o2_dump::{Core, NoMemory};
-use o2_tool::{Hex, MISUSED, REFUSED, Shown};
+use o2_tool::{Hex, MISUSED, REFUSED, Shown, no_memory};
 use std::io;
 use std::process::ExitCode;
 
 /// The bytes of a segment, if the image has it.
-pub fn bytes_of(rt: &HostRuntime, core: &Core, number: u32) -> anyhow::Result<Option<Bytes>> {
+pub fn bytes_of(rt: &HostRuntime, core: &Core, number: u32) -> io::Result<Option<Bytes>> {
     match core.segment(rt.alloc(), number) {
         Ok(found) => Ok(found),
-        Err(NoMemory) => anyhow::bail!("there is no memory"),
+        Err(NoMemory) => Err(no_memory()),
     }
 }
 
@@ -26,8 +26,17 @@ fn list_bytes(rt: &HostRuntime, bytes: &[u8]) -> io::Result<()> {
     Ok(())
 }
 
+/// The bytes of a segment in lines, if the image has it.
+fn list_segment(rt: &HostRuntime, core: &Core, number: u32) -> io::Result<()> {
+    match bytes_of(rt, core, number) {
+        Ok(Some(bytes)) => list_bytes(rt, bytes.as_slice()),
+        Ok(None) => Ok(()),
+        Err(error) => Err(error),
+    }
+}
+
 /// The segment of this number, which is a word of the command.
-pub fn list(rt: &HostRuntime, core: &Core, word: &str) -> anyhow::Result<ExitCode> {
+pub fn list(rt: &HostRuntime, core: &Core, word: &str) -> io::Result<ExitCode> {
     let Ok(number) = word.parse::<u32>() else {
         eprintln!(rt;
             "os2core: {} is no number of a segment",
@@ -40,8 +49,6 @@ pub fn list(rt: &HostRuntime, core: &Core, word: &str) -> anyhow::Result<ExitCod
         return Ok(ExitCode::from(REFUSED));
     };
     println!(rt; "segment {number}: {}", Told::Entry(entry))?;
-    if let Some(bytes) = bytes_of(rt, core, number)? {
-        list_bytes(rt, bytes.as_slice())?;
-    }
+    list_segment(rt, core, number)?;
     Ok(ExitCode::SUCCESS)
 }

@@ -4,6 +4,7 @@ use crate::facts::Told;
 use crate::holders::{HeldBy, Holder, of_segment};
 use crate::spans::{Span, spans};
 use o2_dump::{Block, Core, Place, SegmentEntry};
+use o2_tool::unallocated;
 use std::alloc::AllocError;
 use std::io;
 
@@ -59,14 +60,13 @@ fn list_spans(rt: &HostRuntime, core: &Core, holders: &[Holder], spans: &[Span])
 }
 
 /// The memory by its addresses.
-pub fn list_memory(rt: &HostRuntime, core: &Core, holders: &[Holder]) -> anyhow::Result<()> {
+pub fn list_memory(rt: &HostRuntime, core: &Core, holders: &[Holder]) -> io::Result<()> {
     println!(rt; "\nmemory")?;
-    let parts = spans(
-        rt.alloc(),
-        core.memory.len() as u64,
-        core.segments.as_slice(),
-    )?;
-    Ok(list_spans(rt, core, holders, parts.as_slice())?)
+    let memory = core.memory.len() as u64;
+    match spans(rt.alloc(), memory, core.segments.as_slice()) {
+        Ok(parts) => list_spans(rt, core, holders, parts.as_slice()),
+        Err(_) => Err(unallocated()),
+    }
 }
 
 /// A segment that isn't in memory.
@@ -145,7 +145,9 @@ fn list_uses(rt: &HostRuntime, uses: &[Use], blocks: u32) -> io::Result<()> {
 }
 
 /// The swap device by its blocks.
-pub fn list_blocks(rt: &HostRuntime, core: &Core) -> anyhow::Result<()> {
-    let uses = uses(rt, core)?;
-    Ok(list_uses(rt, uses.as_slice(), core.blocks)?)
+pub fn list_blocks(rt: &HostRuntime, core: &Core) -> io::Result<()> {
+    match uses(rt, core) {
+        Ok(uses) => list_uses(rt, uses.as_slice(), core.blocks),
+        Err(_) => Err(unallocated()),
+    }
 }

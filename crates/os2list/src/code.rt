@@ -1,15 +1,16 @@
 // The relocations and the code of a segment.
 
 use crate::lines::{CodeLine, code_lines};
-use crate::relocations::{source_text, target_text};
+use crate::relocations::{Mark, mark_of, source_text, wanted};
 use o2_image::Module;
 use o2_ne_segs::{Kind, Reloc, Segment};
-use o2_tool::{Hex, Shown, filling};
-use std::alloc::{AllocError, Global};
+use o2_tool::{Hex, Shown, filling, unallocated};
+use std::alloc::AllocError;
 use std::collections::BTreeMap;
+use std::io;
 
 /// What is patched at which place.
-type Notes = BTreeMap<usize, String>;
+type Notes = BTreeMap<usize, Mark>;
 
 /// The word at a place, where both bytes are there.
 fn word_at(bytes: &[u8], at: usize) -> Option<usize> {
@@ -19,16 +20,10 @@ fn word_at(bytes: &[u8], at: usize) -> Option<usize> {
 }
 
 /// Adds the places of a record: one, or its chain.
-fn add_notes(
-    alloc: Global,
-    module: &Module,
-    bytes: &[u8],
-    reloc: &Reloc,
-    notes: &mut Notes,
-) -> Result<(), AllocError> {
+fn add_notes(bytes: &[u8], reloc: &Reloc, notes: &mut Notes) -> Result<(), AllocError> {
     let mut at = reloc.place as usize;
     for _ in 0..65_536u32 {
-        notes.insert(at, target_text(alloc, module, reloc)?)?;
+        notes.insert(at, mark_of(reloc))?;
         if reloc.flags & 4 != 0 || reloc.source == 0 {
             return Ok(());
         }
@@ -40,41 +35,54 @@ fn add_notes(
     Ok(())
 }
 
+/// A relocation.
+fn list_relocation(rt: &HostRuntime, module: &Module, reloc: &Reloc) -> io::Result<()> {
+    let target = wanted(module, mark_of(reloc));
+    let added = if reloc.flags & 4 != 0 { ", added" } else { "" };
+    println!(rt;
+        "  {:04X}h {} to {target}{added}",
+        reloc.place,
+        source_text(reloc)
+    )
+}
+
 /// The relocations of a segment, and what is patched where.
 fn list_relocations(
     rt: &HostRuntime,
     module: &Module,
     number: u16,
     bytes: &[u8],
-) -> anyhow::Result<Notes> {
-    let mut notes = BTreeMap::new(rt.alloc());
+    notes: &mut Notes,
+) -> io::Result<()> {
     for k in 0..module.segment_relocs(number) {
         if let Some(reloc) = module.reloc(number, k) {
-            let target = target_text(rt.alloc(), module, &reloc)?;
-            let added = if reloc.flags & 4 != 0 { ", added" } else { "" };
-            println!(rt;
-                "  {:04X}h {} to {target}{added}",
-                reloc.place,
-                source_text(&reloc)
-            )?;
-            add_notes(rt.alloc(), module, bytes, &reloc, &mut notes)?;
+            list_relocation(rt, module, &reloc)?;
+            if add_notes(bytes, &reloc, notes).is_err() {
+                return Err(unallocated());
+            }
         }
     }
-    Ok(notes)
+    Ok(())
 }
 
 /// The note at the first of these places that has one.
-fn note_in(notes: &Notes, at: usize, count: usize) -> Option<&String> {
+fn note_in(notes: &Notes, at: usize, count: usize) -> Option<Mark> {
     for place in at..at.saturating_add(count) {
         if let Some(note) = notes.get(&place) {
-            return Some(note);
+            return Some(*note);
         }
     }
     None
 }
 
 /// One line: the offset, the bytes, their text, and what is patched in them.
-fn list_line(rt: &HostRuntime, bytes: &[u8], line: &CodeLine, notes: &Notes) -> anyhow::Result<()> {
+fn list_line(
+    rt: &HostRuntime,
+    module: &Module,
+    bytes: &[u8],
+    line: &CodeLine,
+    notes: &Notes,
+) -> io::Result<()> {
     let end = line.at.saturating_add(line.count).min(bytes.len());
     let at = line.at.min(end);
     let shown = &bytes[at..end];
@@ -84,19 +92,34 @@ fn list_line(rt: &HostRuntime, bytes: &[u8], line: &CodeLine, notes: &Notes) -> 
         Shown(line.text.as_slice()),
     );
     match note_in(notes, at, shown.len()) {
-        None => println!(rt; "  {at:04X}  {code}{rest}  {text}")?,
-        Some(note) => println!(rt; "  {at:04X}  {code}{rest}  {text}  ; {note}")?,
+        None => println!(rt; "  {at:04X}  {code}{rest}  {text}"),
+        Some(mark) => {
+            let note = wanted(module, mark);
+            println!(rt; "  {at:04X}  {code}{rest}  {text}  ; {note}")
+        }
+    }
+}
+
+/// Lines of code.
+fn list_lines(
+    rt: &HostRuntime,
+    module: &Module,
+    bytes: &[u8],
+    lines: &[CodeLine],
+    notes: &Notes,
+) -> io::Result<()> {
+    for line in lines {
+        list_line(rt, module, bytes, line, notes)?;
     }
     Ok(())
 }
 
 /// The code of a segment, from its first byte to its last in the file, one instruction behind the other.
-fn list_code(rt: &HostRuntime, bytes: &[u8], notes: &Notes) -> anyhow::Result<()> {
-    let lines = code_lines(rt.alloc(), bytes)?;
-    for line in &lines {
-        list_line(rt, bytes, line, notes)?;
+fn list_code(rt: &HostRuntime, module: &Module, bytes: &[u8], notes: &Notes) -> io::Result<()> {
+    match code_lines(rt.alloc(), bytes) {
+        Ok(lines) => list_lines(rt, module, bytes, lines.as_slice(), notes),
+        Err(_) => Err(unallocated()),
     }
-    Ok(())
 }
 
 /// The bytes of a segment in its file.
@@ -110,21 +133,29 @@ fn bytes_of<'a>(file: &'a [u8], segment: &Segment) -> &'a [u8] {
     }
 }
 
-/// The relocations of a segment, and its code where it has some.
-pub fn list_segment(
+/// The relocations of a segment of these bytes, and its code where it has some; it notes what is patched where.
+fn list_parts(
     rt: &HostRuntime,
-    file: &[u8],
     module: &Module,
     number: u16,
-) -> anyhow::Result<()> {
+    kind: Kind,
+    bytes: &[u8],
+    notes: &mut Notes,
+) -> io::Result<()> {
+    list_relocations(rt, module, number, bytes, notes)?;
+    match kind {
+        Kind::Code | Kind::CodeOnly => list_code(rt, module, bytes, notes),
+        Kind::Writable | Kind::ReadOnly => Ok(()),
+    }
+}
+
+/// The relocations of a segment, and its code where it has some.
+pub fn list_segment(rt: &HostRuntime, file: &[u8], module: &Module, number: u16) -> io::Result<()> {
     let Some(segment) = module.segment(number) else {
         return Ok(());
     };
     println!(rt; "\nsegment {number}")?;
+    let mut notes = BTreeMap::new(rt.alloc());
     let bytes = bytes_of(file, &segment);
-    let notes = list_relocations(rt, module, number, bytes)?;
-    match segment.kind {
-        Kind::Code | Kind::CodeOnly => list_code(rt, bytes, &notes),
-        Kind::Writable | Kind::ReadOnly => Ok(()),
-    }
+    list_parts(rt, module, number, segment.kind, bytes, &mut notes)
 }

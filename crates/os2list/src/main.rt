@@ -2,8 +2,9 @@
 // writes it.
 #![tactic(auto)]
 
+ghost use Rattle.std.specs.Prelude.{◌≤◌, length};
+
 mod code;
-mod command;
 mod lines;
 mod names;
 mod relocations;
@@ -12,11 +13,15 @@ mod tables;
 use o2_base::{Bytes, Fail};
 use o2_image::Module;
 use o2_outer::{Fetch, Files, FolderFiles};
-use o2_tool::{FAILED, MISUSED, REFUSED, Shown, answered, ended, file_name, words};
+use o2_tool::{
+    FAILED, ListWords, MISUSED, REFUSED, Shown, ended, file_name, list_words, no_memory,
+    unallocated, words,
+};
+use std::io;
 use std::process::ExitCode;
 
 /// Lists a module, of which these are the bytes.
-fn list(rt: &HostRuntime, file: &[u8], module: &Module) -> anyhow::Result<ExitCode> {
+fn list(rt: &HostRuntime, file: &[u8], module: &Module) -> io::Result<ExitCode> {
     tables::list_head(rt, module)?;
     tables::list_segments(rt, module)?;
     names::list_names(rt, file, module.head())?;
@@ -29,47 +34,72 @@ fn list(rt: &HostRuntime, file: &[u8], module: &Module) -> anyhow::Result<ExitCo
 }
 
 /// The end where the file is no module that is read here.
-fn refused(rt: &HostRuntime, word: &str) -> anyhow::Result<ExitCode> {
+fn refused(rt: &HostRuntime, word: &str) -> io::Result<ExitCode> {
     let name = Shown(word.as_bytes());
     eprintln!(rt; "os2list: {name} is refused: `os2why exe` says why")?;
     Ok(ExitCode::from(REFUSED))
 }
 
 /// The end where there is no such file, or it can't be read.
-fn unread(rt: &HostRuntime, word: &str, why: &str) -> anyhow::Result<ExitCode> {
+fn unread(rt: &HostRuntime, word: &str, why: &str) -> io::Result<ExitCode> {
     let name = Shown(word.as_bytes());
     eprintln!(rt; "os2list: the file {name} {why}")?;
     Ok(ExitCode::from(FAILED))
 }
 
-/// Lists the file of this name.
-fn list_file(rt: &HostRuntime, word: &str) -> anyhow::Result<ExitCode> {
-    let name = file_name(rt.alloc(), word)?;
-    let mut files = FolderFiles::new(rt);
-    let file = match files.fetch(rt.alloc(), &name, 4_194_304) {
-        Fetch::Got(file) => file,
-        Fetch::NoFile => return unread(rt, word, "isn't there"),
-        Fetch::TooLong => return refused(rt, word),
-        Fetch::Failed => return unread(rt, word, "can't be read"),
-        Fetch::NoMemory => anyhow::bail!("there is no memory"),
-    };
-    let Ok(copy) = Bytes::from_slice(rt.alloc(), file.as_slice()) else {
-        anyhow::bail!("there is no memory");
-    };
+/// Lists these bytes, of which this is a copy.
+fn list_copied(rt: &HostRuntime, word: &str, file: &[u8], copy: Bytes) -> io::Result<ExitCode>
+    requires { length copy ≤ 4194304 }
+{
     match Module::check(rt.alloc(), copy) {
-        Ok(module) => list(rt, file.as_slice(), &module),
-        Err(Fail::NoMemory) => anyhow::bail!("there is no memory"),
+        Ok(module) => list(rt, file, &module),
+        Err(Fail::NoMemory) => Err(no_memory()),
         Err(Fail::Bad(_)) => refused(rt, word),
     }
 }
 
-fn run(rt: &HostRuntime) -> anyhow::Result<ExitCode> {
-    let Some(words) = words(rt, "os2list")? else {
-        return Ok(ExitCode::from(MISUSED));
-    };
-    match command::program(rt.alloc())?.try_get_matches_from(words.as_slice()) {
-        Ok(matches) => list_file(rt, matches.get_str("FILE").unwrap_or("")),
-        Err(error) => Ok(answered(rt, &error)?),
+/// Lists these bytes of a file.
+fn list_bytes(rt: &HostRuntime, word: &str, file: &[u8]) -> io::Result<ExitCode>
+    requires { length file.now ≤ 4194304 }
+{
+    match Bytes::from_slice(rt.alloc(), file) {
+        Ok(copy) => list_copied(rt, word, file, copy),
+        Err(_) => Err(no_memory()),
+    }
+}
+
+/// Lists the file of this name.
+fn list_named(rt: &HostRuntime, word: &str, name: &Bytes) -> io::Result<ExitCode> {
+    let mut files = FolderFiles::new(rt);
+    match files.fetch(rt.alloc(), name, 4_194_304) {
+        Fetch::Got(file) => list_bytes(rt, word, file.as_slice()),
+        Fetch::NoFile => unread(rt, word, "isn't there"),
+        Fetch::TooLong => refused(rt, word),
+        Fetch::Failed => unread(rt, word, "can't be read"),
+        Fetch::NoMemory => Err(no_memory()),
+    }
+}
+
+/// Lists the file that this word names.
+fn list_file(rt: &HostRuntime, word: &str) -> io::Result<ExitCode> {
+    match file_name(rt.alloc(), word) {
+        Ok(name) => list_named(rt, word, &name),
+        Err(_) => Err(unallocated()),
+    }
+}
+
+/// Does what these words ask for.
+fn obey(rt: &HostRuntime, words: &[String]) -> io::Result<ExitCode> {
+    match list_words(rt, words)? {
+        ListWords::File(file) => list_file(rt, file),
+        ListWords::Answered(code) => Ok(code),
+    }
+}
+
+fn run(rt: &HostRuntime) -> io::Result<ExitCode> {
+    match words(rt, "os2list")? {
+        Some(words) => obey(rt, words.as_slice()),
+        None => Ok(ExitCode::from(MISUSED)),
     }
 }
 

@@ -4,10 +4,10 @@ ghost use Rattle.std.specs.Prelude.{◌≤◌, IfSome};
 use o2_base::{SERVICE_COUNT, is_built, service_at};
 use o2_image::Module;
 use o2_ne_segs::Reloc;
-use o2_tool::Shown;
+use o2_tool::{Shown, unallocated};
 use std::alloc::{AllocError, Global};
 use std::collections::BTreeMap;
-use std::io;
+use std::{fmt, io};
 
 /// The number of the call that DOSCALLS has under an ordinal, where it is known.
 fn call_of(ordinal: u16) -> Option<u16>
@@ -53,60 +53,89 @@ fn is_lacking(call: Option<u16>) -> bool {
 }
 
 /// Whether a record imports from DOSCALLS what the machine hasn't, so that a shim would have to give it.
-fn is_for_shim(module: &Module, reloc: &Reloc) -> bool {
-    let name = module.reference(reloc.first).unwrap_or(b"");
+fn is_for_shim(module: &Module, mark: Mark) -> bool {
+    let (kind, first, second) = mark;
+    let name = module.reference(first).unwrap_or(b"");
     if !is_system(name) {
         return false;
     }
-    match reloc.flags & 3 {
-        1 => is_lacking(call_of(reloc.second)),
-        2 => is_lacking(call_named(module.imported(reloc.second).unwrap_or(b""))),
+    match kind {
+        1 => is_lacking(call_of(second)),
+        2 => is_lacking(call_named(module.imported(second).unwrap_or(b""))),
         _ => false,
     }
 }
 
-/// An import, with a mark where a shim would have to give it.
-fn import_text(alloc: Global, module: &Module, reloc: &Reloc) -> Result<String, AllocError> {
-    let text = target_text(alloc, module, reloc)?;
-    if is_for_shim(module, reloc) {
-        format!(in alloc; "{text}, for a shim")
-    } else {
-        Ok(text)
+/// What a record leads to.
+#[derive(Clone, Copy)]
+pub enum Target<'a> {
+    /// An entry of the module.
+    Entry(u16),
+    /// A place in a segment.
+    Place(u16, u16),
+    /// A fixup of the operating system.
+    System,
+    /// What a module has under an ordinal.
+    Ordinal(&'a [u8], u16),
+    /// A call that DOSCALLS has under an ordinal.
+    Call(&'a [u8], u16, &'a [u8]),
+    /// What a module exports by a name.
+    Name(&'a [u8], &'a [u8]),
+}
+
+impl fmt::Display for Target<'_> {
+    fn fmt<W: fmt::Write>(&self, f: &mut fmt::Formatter<W>) -> fmt::Result {
+        match *self {
+            Target::Entry(ordinal) => write!(f, "entry {ordinal}"),
+            Target::Place(segment, offset) => write!(f, "segment {segment}:{offset:04X}h"),
+            Target::System => f.write_str("a fixup of the operating system"),
+            Target::Ordinal(name, ordinal) => write!(f, "{}.{ordinal}", Shown(name)),
+            Target::Call(name, ordinal, call) => {
+                write!(f, "{}.{ordinal} ({})", Shown(name), Shown(call))
+            }
+            Target::Name(name, symbol) => write!(f, "{}.{}", Shown(name), Shown(symbol)),
+        }
     }
 }
 
 /// An import by an ordinal, with the call's name where it is known.
-fn ordinal_text(alloc: Global, module: &[u8], ordinal: u16) -> Result<String, AllocError> {
-    let name = if is_system(module) {
-        call_name(ordinal)
+fn by_ordinal(name: &[u8], ordinal: u16) -> Target<'_> {
+    if !is_system(name) {
+        return Target::Ordinal(name, ordinal);
+    }
+    let call = call_name(ordinal);
+    if call.is_empty() {
+        Target::Ordinal(name, ordinal)
     } else {
-        b""
-    };
-    if name.is_empty() {
-        format!(in alloc; "{}.{ordinal}", Shown(module))
-    } else {
-        format!(in alloc; "{}.{ordinal} ({})", Shown(module), Shown(name))
+        Target::Call(name, ordinal, call)
     }
 }
 
+/// What a record leads to: its flags, and both words of its target.
+pub type Mark = (u8, u16, u16);
+
 /// What a record leads to.
-pub fn target_text(alloc: Global, module: &Module, reloc: &Reloc) -> Result<String, AllocError> {
-    let kind = reloc.flags & 3;
+pub fn mark_of(reloc: &Reloc) -> Mark {
+    (reloc.flags & 3, reloc.first, reloc.second)
+}
+
+/// What a record leads to.
+pub fn wanted(module: &Module, mark: Mark) -> Target<'_> {
+    let (kind, first, second) = mark;
     if kind == 0 {
-        if reloc.first == 255 {
-            return format!(in alloc; "entry {}", reloc.second);
+        if first == 255 {
+            return Target::Entry(second);
         }
-        return format!(in alloc; "segment {}:{:04X}h", reloc.first, reloc.second);
+        return Target::Place(first, second);
     }
     if kind == 3 {
-        return format!(in alloc; "a fixup of the operating system");
+        return Target::System;
     }
-    let name = module.reference(reloc.first).unwrap_or(b"");
+    let name = module.reference(first).unwrap_or(b"");
     if kind == 1 {
-        return ordinal_text(alloc, name, reloc.second);
+        return by_ordinal(name, second);
     }
-    let symbol = module.imported(reloc.second).unwrap_or(b"");
-    format!(in alloc; "{}.{}", Shown(name), Shown(symbol))
+    Target::Name(name, module.imported(second).unwrap_or(b""))
 }
 
 /// What is patched.
@@ -120,19 +149,39 @@ pub fn source_text(reloc: &Reloc) -> &'static str {
     }
 }
 
-/// Adds the imports of a segment, each once.
+/// How many records want each import.
+type Imports = BTreeMap<String, u64>;
+
+/// Counts an import, with a mark where a shim would have to give it.
+fn add_import(
+    alloc: Global,
+    module: &Module,
+    mark: Mark,
+    found: &mut Imports,
+) -> Result<(), AllocError> {
+    let target = wanted(module, mark);
+    let rest = if is_for_shim(module, mark) {
+        ", for a shim"
+    } else {
+        ""
+    };
+    let text = format!(in alloc; "{target}{rest}")?;
+    let before = found.get(text.as_str()).copied().unwrap_or(0);
+    found.insert(text, before.saturating_add(1))?;
+    Ok(())
+}
+
+/// Adds the imports of a segment.
 fn gather(
     alloc: Global,
     module: &Module,
     segment: u16,
-    found: &mut BTreeMap<String, u64>,
+    found: &mut Imports,
 ) -> Result<(), AllocError> {
     for number in 0..module.segment_relocs(segment) {
         if let Some(reloc) = module.reloc(segment, number) {
             if reloc.flags & 3 == 1 || reloc.flags & 3 == 2 {
-                let text = import_text(alloc, module, &reloc)?;
-                let before = found.get(text.as_str()).copied().unwrap_or(0);
-                found.insert(text, before.saturating_add(1))?;
+                add_import(alloc, module, mark_of(&reloc), found)?;
             }
         }
     }
@@ -150,16 +199,29 @@ fn list_references(rt: &HostRuntime, module: &Module) -> io::Result<()> {
     Ok(())
 }
 
-/// The modules that are referred to, and the imports, with the number of records that want each.
-pub fn list_imports(rt: &HostRuntime, module: &Module) -> anyhow::Result<()> {
-    list_references(rt, module)?;
-    let mut found = BTreeMap::new(rt.alloc());
+/// Adds the imports of all segments.
+fn gather_all(alloc: Global, module: &Module, found: &mut Imports) -> Result<(), AllocError> {
     for segment in 1..=module.segment_count() {
-        gather(rt.alloc(), module, segment, &mut found)?;
+        gather(alloc, module, segment, found)?;
     }
+    Ok(())
+}
+
+/// The imports that are gathered.
+fn list_found(rt: &HostRuntime, found: &Imports) -> io::Result<()> {
     println!(rt; "\nimports: {}", found.len() as u64)?;
     for (text, count) in found.iter() {
         println!(rt; "  {count:>5} {text}")?;
     }
     Ok(())
+}
+
+/// The modules that are referred to, and the imports, with the number of records that want each.
+pub fn list_imports(rt: &HostRuntime, module: &Module) -> io::Result<()> {
+    list_references(rt, module)?;
+    let mut found = BTreeMap::new(rt.alloc());
+    match gather_all(rt.alloc(), module, &mut found) {
+        Ok(()) => list_found(rt, &found),
+        Err(_) => Err(unallocated()),
+    }
 }

@@ -12,9 +12,9 @@ ghost use Rattle.os2trace.specs.Going.{IsGoing, AreShown};
 
 use crate::command::Choice;
 use crate::copied::{Copied, changes_of, copy_of, held};
-use crate::output::{put_lines, put_step};
+use crate::output::{put_lines, put_step, put_waiter};
 use crate::reading::{bytes_of, ten_at};
-use o2_base::{NoMemory, Selector};
+use o2_base::{NoMemory, SERVICE_COUNT, Selector, service_at};
 use o2_core::step_plain;
 use o2_isa::{Cpu, Outcome};
 use o2_machine::{BeginFault, Machine, Steps, Turn};
@@ -23,7 +23,7 @@ use o2_outer::{MemSink, StdinSource, SureSwap};
 use o2_place::SegId;
 use o2_sched::Pick;
 use o2_tool::REFUSED;
-use o2_trace::{Before, Told, exception_of};
+use o2_trace::{Before, Told, Waiter, exception_of};
 use std::alloc::{AllocError, Global};
 use std::process::ExitCode;
 
@@ -54,6 +54,8 @@ struct Outside {
     /// What the process of the step holds. It is copied anew where that may not be what the step before it left: a call of a service
     /// may change what a process holds, and the step of another one the bytes that they share.
     copied: Copied,
+    /// Whether each process, by its number, stands where it stood before its last step.
+    standing: Vec<bool>,
 }
 
 /// What stands beside a machine with so many swap blocks.
@@ -67,6 +69,7 @@ fn beside(rt: &HostRuntime, blocks: u32) -> Result<Outside, NoMemory>
         report: sink(rt.alloc(), START_ROOM)?,
         swap: SureSwap::new(rt.alloc(), blocks)?,
         copied: Copied::new(rt.alloc())?,
+        standing: vec![in rt.alloc(); false; 65]?,
     })
 }
 
@@ -168,17 +171,58 @@ fn is_chosen(choice: Choice, number: u64, process: u16, cs: u16) -> bool
         && (choice.selector == 0 || choice.selector == cs)
 }
 
-/// The process and the registers of the step that is next, where it is shown.
-fn chosen_step(machine: &mut Machine, choice: Choice, number: u64) -> Option<(u16, Cpu)>
+/// The process and the registers of the step that is next.
+fn next_step(machine: &mut Machine) -> Option<(u16, Cpu)>
     ensures going { (device : ℕ) → GoesOver machine.old.space machine.old.sched device
         → GoesOver machine.new.space machine.new.sched device }
 {
     let process = next_process(machine)?;
     let (cpu, _, _) = machine.process(process)?;
+    Some((process, cpu))
+}
+
+/// A step that is next, where it is shown.
+fn chosen(step: Option<(u16, Cpu)>, choice: Choice, number: u64) -> Option<(u16, Cpu)> {
+    let (process, cpu) = step?;
     if is_chosen(choice, number, process, cpu.cs) {
         Some((process, cpu))
     } else {
         None
+    }
+}
+
+/// Whether a living process stands where it stood with these registers.
+fn stands(machine: &Machine, process: u16, old: &Cpu) -> bool {
+    match machine.process(process) {
+        Some((new, 0, _)) => new.ip == old.ip && new.cs == old.cs && new.sp == old.sp,
+        _ => false,
+    }
+}
+
+/// Notes whether the process of a step stands where it stood before it, where the step was taken.
+fn note(machine: &Machine, standing: &mut [bool], turn: &Turn, step: Option<(u16, Cpu)>) {
+    let Some((process, old)) = step else {
+        return;
+    };
+    if !matches!(turn, Turn::Ran) {
+        return;
+    }
+    if let Some(place) = standing.get_mut(process as usize) {
+        *place = stands(machine, process, &old);
+    }
+}
+
+/// The name of the service that the processor's answer calls, where its process stands before the call.
+fn waited_call(stands: bool, answer: Outcome) -> &'static [u8] {
+    match answer {
+        Outcome::Gate { service, .. } => {
+            if stands && service >= 1 && service <= SERVICE_COUNT {
+                service_at(service).name
+            } else {
+                b""
+            }
+        }
+        _ => b"",
     }
 }
 
@@ -195,11 +239,13 @@ fn told<'a>(
         Some((_, 2, vector)) => (None, Some(exception_of(&before, vector, answer))),
         _ => (None, None),
     };
+    let waits = waited_call(stands(machine, before.process, &before.cpu), answer);
     Told {
         number,
         before,
         after,
         exception,
+        waits,
         changes: outside.copied.changes.as_slice(),
         console: outside.console.taken(),
         report: outside.report.taken(),
@@ -288,6 +334,24 @@ fn empty(alloc: Global, outside: &mut Outside) -> Result<(), AllocError>
     Ok(())
 }
 
+/// Takes a turn: one whose step is shown, or another.
+fn taken_turn(
+    rt: &HostRuntime,
+    machine: &mut Machine,
+    outside: &mut Outside,
+    choice: Choice,
+    step: Option<(u16, Cpu)>,
+    number: u64,
+) -> anyhow::Result<Turn>
+    requires going { IsGoing machine.old outside.old.swap }
+    ensures going { IsGoing machine.new outside.new.swap }
+{
+    match step {
+        Some(step) => shown_turn(rt, machine, outside, choice, step, number),
+        None => unseen_turn(rt, machine, outside, choice),
+    }
+}
+
 /// Takes the turn of this number, from 1.
 fn turned(
     rt: &HostRuntime,
@@ -300,10 +364,72 @@ fn turned(
     ensures going { IsGoing machine.new outside.new.swap }
 {
     empty(rt.alloc(), outside)?;
-    match chosen_step(machine, choice, number) {
-        Some(step) => shown_turn(rt, machine, outside, choice, step, number),
-        None => unseen_turn(rt, machine, outside, choice),
+    let next = next_step(machine);
+    let step = chosen(next, choice, number);
+    let turn = taken_turn(rt, machine, outside, choice, step, number)?;
+    note(machine, &mut outside.standing, &turn, next);
+    Ok(turn)
+}
+
+/// The call in which a process stands that lives, where it does so in one.
+fn standing_call(
+    alloc: Global,
+    machine: &Machine,
+    outside: &mut Outside,
+    process: u16,
+    cpu: Cpu,
+) -> Result<&'static [u8], AllocError>
+    requires shown { AreShown machine.now }
+    ensures blocks { swap_blocks outside.new.swap ≡ swap_blocks outside.old.swap }
+{
+    outside.copied.process = 0;
+    let before = prepared(alloc, machine, outside, process, cpu)?;
+    let answer = answer_of(&mut outside.copied, &before);
+    Ok(waited_call(true, answer))
+}
+
+/// Says where a process waits that stands where it stood before its last step, and in which call.
+fn put_waiting(
+    rt: &HostRuntime,
+    machine: &Machine,
+    outside: &mut Outside,
+    is_json: bool,
+    process: u16,
+) -> anyhow::Result<()>
+    requires shown { AreShown machine.now }
+    ensures blocks { swap_blocks outside.new.swap ≡ swap_blocks outside.old.swap }
+{
+    let Some((cpu, 0, _)) = machine.process(process) else {
+        return Ok(());
+    };
+    let call = standing_call(rt.alloc(), machine, outside, process, cpu)?;
+    if call.is_empty() {
+        return Ok(());
     }
+    let waiter = Waiter {
+        process,
+        cs: cpu.cs,
+        ip: cpu.ip,
+        call,
+    };
+    put_waiter(rt, &waiter, is_json)
+}
+
+/// Says of each process that waits at the end of the run where it does.
+fn put_all_waiting(
+    rt: &HostRuntime,
+    machine: &Machine,
+    outside: &mut Outside,
+    is_json: bool,
+) -> anyhow::Result<()>
+    requires shown { AreShown machine.now }
+{
+    for process in 1..65u16 {
+        if outside.standing.get(process as usize).copied() == Some(true) {
+            put_waiting(rt, machine, outside, is_json, process)?;
+        }
+    }
+    Ok(())
 }
 
 /// Shows the lines of the starts, and the steps of a machine that stands at the front of its run.
@@ -320,6 +446,7 @@ fn follow_on(
         match turned(rt, machine, outside, choice, number)? {
             Turn::Ran => {}
             Turn::AllEnded | Turn::BudgetSpent | Turn::NoRoom | Turn::SwapFull => {
+                put_all_waiting(rt, machine, outside, choice.is_json)?;
                 return Ok(ExitCode::SUCCESS);
             }
             Turn::InputFault => anyhow::bail!("the input can't be read"),

@@ -1,7 +1,11 @@
 // The lines of a trace.
 
 use o2_tool::print_lines;
-use o2_trace::{Told, change_text, exception_text, report_json, step_json, step_text};
+use o2_trace::{
+    Told, Waiter, change_text, exception_text, report_json, step_json, step_text, wait_text,
+    waiter_json, waiter_text,
+};
+use std::alloc::{AllocError, Global};
 
 /// The exception that ended a process, in a line.
 fn put_exception(rt: &HostRuntime, told: &Told<'_>) -> anyhow::Result<()> {
@@ -18,9 +22,18 @@ fn put_changes(rt: &HostRuntime, told: &Told<'_>) -> anyhow::Result<()> {
     Ok(print_lines(rt, "*", text.as_bytes())?)
 }
 
+/// The line of a step.
+fn line_of(alloc: Global, told: &Told<'_>) -> Result<String, AllocError> {
+    if told.waits.is_empty() {
+        step_text(alloc, &told.before, told.after.as_ref())
+    } else {
+        wait_text(alloc, &told.before)
+    }
+}
+
 /// A step, in lines.
 fn put_text(rt: &HostRuntime, told: &Told<'_>) -> anyhow::Result<()> {
-    let line = step_text(rt.alloc(), &told.before, told.after.as_ref())?;
+    let line = line_of(rt.alloc(), told)?;
     println!(rt; "{line}")?;
     put_exception(rt, told)?;
     put_changes(rt, told)?;
@@ -36,6 +49,22 @@ pub fn put_step(rt: &HostRuntime, told: &Told<'_>, is_json: bool) -> anyhow::Res
         return Ok(());
     }
     put_text(rt, told)
+}
+
+/// The line of a process that waits at the end of the run, or its object of JSON.
+fn waiter_line(alloc: Global, waiter: &Waiter<'_>, is_json: bool) -> Result<String, AllocError> {
+    if is_json {
+        waiter_json(alloc, waiter)
+    } else {
+        waiter_text(alloc, waiter)
+    }
+}
+
+/// A process that waits at the end of the run, in a line.
+pub fn put_waiter(rt: &HostRuntime, waiter: &Waiter<'_>, is_json: bool) -> anyhow::Result<()> {
+    let line = waiter_line(rt.alloc(), waiter, is_json)?;
+    println!(rt; "{line}")?;
+    Ok(())
 }
 
 /// Lines of the report that no step put, as lines or as an object of JSON.

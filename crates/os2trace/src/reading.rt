@@ -4,7 +4,7 @@ ghost use Rattle.o2_image.specs.ImageList.{HasImage};
 ghost use Rattle.o2_store.specs.Pictures.{HasPicture};
 ghost use Rattle.o2_store.specs.Shelf.{HasAll};
 
-use o2_outer::{Dev, SwapDevice};
+use o2_outer::{Dev, SwapDevice, read_block};
 use o2_place::SegId;
 use o2_space::Space;
 use o2_store::Place;
@@ -36,7 +36,7 @@ fn from_blocks<S: SwapDevice>(space: &Space, id: SegId, swap: &mut S, into: &mut
         let Some(number) = space.store.block(id, k) else {
             return;
         };
-        if number >= swap.count() || swap.read(number, &mut block) == Dev::Failed {
+        if number >= swap.count() || read_block(number, &mut block, swap) == Dev::Failed {
             return;
         }
         let count = (into.len() - at).min(BLOCK);

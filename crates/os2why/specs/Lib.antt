@@ -1,3 +1,4 @@
 pub mod Imports
 pub mod Judges
 pub mod Sentences
+pub mod Wordings

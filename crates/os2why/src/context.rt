@@ -1,6 +1,6 @@
 // What sentences go by beside a refusal: who asks for the module that isn't there, and which service the machine file has under the
 // ordinal that isn't there.
-ghost use Rattle.std.specs.Prelude.{◌≡◌, ◌≤◌, ℕ, List, length, IfOk};
+ghost use Rattle.std.specs.Prelude.{◌≡◌, ◌≤◌, ℕ, List, length, IfOk, IfSome};
 ghost use Rattle.o2_base.specs.declared.faults.ModuleFault.TheVariants as fault;
 ghost use Rattle.o2_dynlink.specs.Imports.{service_with};
 ghost use Rattle.o2_dynlink.specs.Linking.{linked_of};
@@ -48,22 +48,35 @@ fn listed(conf: &Conf, refusal: &ModuleFault) -> Option<u16>
     }
 }
 
+/// A file of at most so many bytes; none where it isn't there, is longer, or can't be read.
+fn file_in<F: Files>(
+    alloc: Global,
+    files: &mut F,
+    name: &Bytes,
+    most: u32,
+) -> Result<Option<Bytes>, NoMemory>
+    ensures { IfOk result (λ o. IfSome o (λ b. length b ≤ most)) }
+{
+    match files.fetch(alloc, name, most) {
+        Fetch::Got(file) => Ok(Some(file)),
+        Fetch::NoMemory => Err(NoMemory),
+        Fetch::NoFile | Fetch::TooLong | Fetch::Failed => Ok(None),
+    }
+}
+
 /// The setting of a machine file; none where it has none.
 pub fn setting<F: Files>(
     alloc: Global,
     files: &mut F,
     name: &Bytes,
 ) -> Result<Option<Conf>, NoMemory> {
-    match files.fetch(alloc, name, 1_048_576) {
-        Fetch::Got(file) => match Conf::read(alloc, file.as_slice()) {
+    match file_in(alloc, files, name, 1_048_576)? {
+        None => Ok(None),
+        Some(file) => match Conf::read(alloc, file.as_slice()) {
             Ok(conf) => Ok(Some(conf)),
             Err(Fail::NoMemory) => Err(NoMemory),
             Err(Fail::Bad(_)) => Ok(None),
         },
-        Fetch::NoMemory => Err(NoMemory),
-        Fetch::NoFile => Ok(None),
-        Fetch::TooLong => Ok(None),
-        Fetch::Failed => Ok(None),
     }
 }
 
@@ -73,16 +86,13 @@ fn module_in<F: Files>(
     files: &mut F,
     name: &Bytes,
 ) -> Result<Option<Module>, NoMemory> {
-    match files.fetch(alloc, name, 4_194_304) {
-        Fetch::Got(file) => match Module::check(alloc, file) {
+    match file_in(alloc, files, name, 4_194_304)? {
+        None => Ok(None),
+        Some(file) => match Module::check(alloc, file) {
             Ok(found) => Ok(Some(found)),
             Err(Fail::NoMemory) => Err(NoMemory),
             Err(Fail::Bad(_)) => Ok(None),
         },
-        Fetch::NoMemory => Err(NoMemory),
-        Fetch::NoFile => Ok(None),
-        Fetch::TooLong => Ok(None),
-        Fetch::Failed => Ok(None),
     }
 }
 
@@ -127,6 +137,36 @@ fn asked_in<F: Files>(alloc: Global, files: &mut F, conf: &Conf) -> Result<bool,
     }
 }
 
+/// Whether a process asks for the module that isn't there, where it is one that isn't there.
+fn is_asked_for<F: Files>(
+    alloc: Global,
+    files: &mut F,
+    conf: &Conf,
+    refusal: &ModuleFault,
+) -> Result<bool, NoMemory> {
+    match refusal {
+        ModuleFault::NoModule(_) => asked_in(alloc, files, conf),
+        _ => Ok(false),
+    }
+}
+
+/// What the sentence of a refusal goes by beside it, where this is the setting of the machine file.
+fn context_in<F: Files>(
+    alloc: Global,
+    files: &mut F,
+    conf: Conf,
+    refusal: &ModuleFault,
+) -> Result<Context, NoMemory> {
+    let listed = listed(&conf, refusal);
+    let asked = is_asked_for(alloc, files, &conf, refusal)?;
+    let Conf { shim, .. } = conf;
+    Ok(Context {
+        asked,
+        listed,
+        shim,
+    })
+}
+
 /// What the sentence of a refusal goes by beside it, where this is the machine file.
 pub fn read_context<F: Files>(
     alloc: Global,
@@ -137,18 +177,8 @@ pub fn read_context<F: Files>(
     let OpenFault::BadModule(_, refusal) = refusal else {
         return Ok(Context::none());
     };
-    let Some(conf) = setting(alloc, files, name)? else {
-        return Ok(Context::none());
-    };
-    let listed = listed(&conf, refusal);
-    let asked = match refusal {
-        ModuleFault::NoModule(_) => asked_in(alloc, files, &conf)?,
-        _ => false,
-    };
-    let Conf { shim, .. } = conf;
-    Ok(Context {
-        asked,
-        listed,
-        shim,
-    })
+    match setting(alloc, files, name)? {
+        None => Ok(Context::none()),
+        Some(conf) => context_in(alloc, files, conf, refusal),
+    }
 }

@@ -1,14 +1,15 @@
 // What executables import, and who has it.
-ghost use Rattle.std.specs.Prelude.{◌≡◌, ◌≤◌, [], IfOk, Some, string_bytes};
+ghost use Rattle.std.specs.Prelude.{◌≡◌, ◌≤◌, [], Some};
 ghost use Rattle.o2_dynlink.specs.Listed.{is_doscalls};
 ghost use Rattle.os2why.specs.Imports.{by_ordinal, by_name, gives_name, gives_ordinal, is_there, label_or, ordinal_label, name_label, state_of};
+ghost use Rattle.os2why.specs.Wordings.{wording_text};
 
 use crate::scope::{Scope, gives_name, gives_ordinal, service_by_name, service_by_ordinal};
 use crate::services::{call_name, is_system};
+use crate::wording::{Part, Wording};
 use o2_base::{SERVICE_COUNT, is_built};
 use o2_image::Module;
 use o2_ne_segs::Reloc;
-use o2_tool::Shown;
 use std::alloc::{AllocError, Global};
 use std::collections::{BTreeMap, BTreeSet};
 
@@ -28,9 +29,9 @@ pub enum State {
 }
 
 /// An import, as MODULE.NAME, and who has it.
-#[derive(Drop)]
-struct Import {
-    text: String,
+#[derive(Clone, Copy)]
+struct Import<'a> {
+    label: Wording<'a>,
     state: State,
 }
 
@@ -63,38 +64,33 @@ fn is_there(service: Option<u16>) -> bool
 }
 
 /// The text of a service's import.
-fn service_text(alloc: Global, number: u16) -> Result<String, AllocError>
+fn service_label(number: u16) -> Wording<'static>
     requires low { 1 ≤ number }
     requires high { number ≤ SERVICE_COUNT }
-    ensures { IfOk result (λ s. string_bytes s ≡ label_or (Some number) []) }
+    ensures { wording_text result ≡ label_or (Some number) [] }
 {
-    format!(in alloc; "DOSCALLS.{}", Shown(call_name(number)))
+    Wording::behind("DOSCALLS.", Part::Name(call_name(number)))
 }
 
 /// The text of an import by an ordinal.
-fn ordinal_text(
-    alloc: Global,
-    scope: &Scope,
-    name: &[u8],
-    ordinal: u16,
-) -> Result<String, AllocError>
-    ensures { IfOk result (λ s. string_bytes s
-        ≡ label_or (by_ordinal scope.now.conf.now.ordinals name.now ordinal) (ordinal_label name.now ordinal)) }
+fn ordinal_label<'a>(scope: &Scope, name: &'a [u8], ordinal: u16) -> Wording<'a>
+    ensures { wording_text result
+        ≡ label_or (by_ordinal scope.now.conf.now.ordinals name.now ordinal) (ordinal_label name.now ordinal) }
 {
     match service_by_ordinal(scope, name, ordinal) {
-        Some(number) => service_text(alloc, number),
-        None => format!(in alloc; "{}.{ordinal}", Shown(name)),
+        Some(number) => service_label(number),
+        None => Wording::pair("", Part::Name(name), ".", Part::Number(ordinal as u64)),
     }
 }
 
 /// The text of an import by a name.
-fn name_text(alloc: Global, name: &[u8], symbol: &[u8]) -> Result<String, AllocError>
-    ensures { IfOk result (λ s. string_bytes s
-        ≡ label_or (by_name name.now symbol.now) (name_label name.now symbol.now)) }
+fn name_label<'a>(name: &'a [u8], symbol: &'a [u8]) -> Wording<'a>
+    ensures { wording_text result
+        ≡ label_or (by_name name.now symbol.now) (name_label name.now symbol.now) }
 {
     match service_by_name(name, symbol) {
-        Some(number) => service_text(alloc, number),
-        None => format!(in alloc; "{}.{}", Shown(name), Shown(symbol)),
+        Some(number) => service_label(number),
+        None => Wording::pair("", Part::Name(name), ".", Part::Name(symbol)),
     }
 }
 
@@ -125,29 +121,32 @@ fn name_state(scope: &Scope, name: &[u8], symbol: &[u8]) -> State
 }
 
 /// What a relocation imports; none where it doesn't.
-fn import_of(
-    alloc: Global,
-    scope: &Scope,
-    module: &Module,
-    reloc: &Reloc,
-) -> Result<Option<Import>, AllocError> {
+fn import_of<'a>(scope: &Scope, module: &'a Module, reloc: &Reloc) -> Option<Import<'a>> {
     let Some(name) = module.reference(reloc.first) else {
-        return Ok(None);
+        return None;
     };
     match reloc.flags & 3 {
-        1 => Ok(Some(Import {
-            text: ordinal_text(alloc, scope, name, reloc.second)?,
+        1 => Some(Import {
+            label: ordinal_label(scope, name, reloc.second),
             state: ordinal_state(scope, name, reloc.second),
-        })),
+        }),
         2 => match module.imported(reloc.second) {
-            Some(symbol) => Ok(Some(Import {
-                text: name_text(alloc, name, symbol)?,
+            Some(symbol) => Some(Import {
+                label: name_label(name, symbol),
                 state: name_state(scope, name, symbol),
-            })),
-            None => Ok(None),
+            }),
+            None => None,
         },
-        _ => Ok(None),
+        _ => None,
     }
+}
+
+/// Adds an import.
+fn add_import(alloc: Global, import: Import<'_>, found: &mut Tally) -> Result<(), AllocError> {
+    let label = import.label;
+    let text = format!(in alloc; "{label}")?;
+    found.insert((import.state, text), 1)?;
+    Ok(())
 }
 
 /// What a relocation leads to: the kind of its target, and both target words.
@@ -169,19 +168,23 @@ fn gather_segment(
         if !seen.insert((reloc.flags & 3, reloc.first, reloc.second))? {
             continue;
         }
-        if let Some(Import { text, state }) = import_of(alloc, scope, module, &reloc)? {
-            found.insert((state, text), 1)?;
+        if let Some(import) = import_of(scope, module, &reloc) {
+            add_import(alloc, import, found)?;
         }
     }
     Ok(())
 }
 
-/// The imports of a module, each once.
-pub fn imports_of(alloc: Global, scope: &Scope, module: &Module) -> Result<Tally, AllocError> {
-    let mut found = BTreeMap::new(alloc);
+/// Adds the imports of a module to a tally, each once.
+pub fn gather(
+    alloc: Global,
+    scope: &Scope,
+    module: &Module,
+    found: &mut Tally,
+) -> Result<(), AllocError> {
     let mut seen = BTreeSet::new(alloc);
     for segment in 1..=module.segment_count() {
-        gather_segment(alloc, scope, module, segment, &mut seen, &mut found)?;
+        gather_segment(alloc, scope, module, segment, &mut seen, found)?;
     }
-    Ok(found)
+    Ok(())
 }

@@ -1,7 +1,9 @@
 // Where a key stands in a machine file, as the reader of TOML itself sees it.
 ghost use Rattle.std.specs.Prelude.{◌≤◌};
 
-use std::alloc::{AllocError, Global};
+use o2_tool::unallocated;
+use std::alloc::Global;
+use std::io;
 use toml::Table;
 
 /// A key: of the file, or of one of its processes, from 0.
@@ -51,6 +53,35 @@ fn has(table: &Table, spot: Spot<'_>) -> bool {
     }
 }
 
+/// What the front of a file is.
+#[derive(Clone, Copy)]
+enum Front {
+    /// A document with the key that is looked for.
+    HasKey,
+    /// A document without it.
+    LacksKey,
+    /// No document.
+    Broken,
+}
+
+/// What this front of a file is.
+fn read_front(alloc: Global, front: &[u8], spot: Spot<'_>) -> io::Result<Front> {
+    match toml::table_from_slice(alloc, front) {
+        Ok(table) => Ok(if has(&table, spot) {
+            Front::HasKey
+        } else {
+            Front::LacksKey
+        }),
+        Err(error) => {
+            if error.is_memory() {
+                Err(unallocated())
+            } else {
+                Ok(Front::Broken)
+            }
+        }
+    }
+}
+
 /// The most bytes that are read in search of all keys, each time that they are read.
 const MOST_BYTES: usize = 67_108_864;
 
@@ -84,7 +115,7 @@ impl Search {
         alloc: Global,
         text: &[u8],
         spot: Spot<'_>,
-    ) -> Result<Option<Lines>, AllocError> {
+    ) -> io::Result<Option<Lines>> {
         let mut line = 0usize;
         let mut first = 1usize;
         for (at, byte) in text.iter().enumerate() {
@@ -95,18 +126,10 @@ impl Search {
                 return Ok(None);
             }
             line += 1;
-            match toml::table_from_slice(alloc, &text[..at + 1]) {
-                Ok(table) => {
-                    if has(&table, spot) {
-                        return Ok(Some(Lines { first, last: line }));
-                    }
-                    first = line + 1;
-                }
-                Err(error) => {
-                    if error.is_memory() {
-                        return Err(AllocError);
-                    }
-                }
+            match read_front(alloc, &text[..at + 1], spot)? {
+                Front::HasKey => return Ok(Some(Lines { first, last: line })),
+                Front::LacksKey => first = line + 1,
+                Front::Broken => {}
             }
         }
         Ok(None)

@@ -3,11 +3,14 @@
 ghost use Rattle.std.specs.Prelude.{◌<◌};
 
 use crate::lines::{Lines, Search, Spot, process_of};
+use crate::output::say;
 use crate::sentences::key_text;
+use crate::wording::{Part, Wording};
 use o2_base::{Bytes, Key, MachineFault, ModuleFault};
 use o2_open::OpenFault;
 use o2_outer::{Fetch, Files, FolderFiles};
-use o2_tool::{Shown, print_lines};
+use o2_tool::{print_lines, unallocated};
+use std::io;
 use toml::{Table, Value};
 
 /// The keys of a machine file.
@@ -20,7 +23,11 @@ const TOP_KEYS: [&str; 11] = [
 const PROCESS_KEYS: [&str; 3] = ["module", "arguments", "environment"];
 
 fn is_among(name: &str, keys: &[&str]) -> bool {
-    keys.iter().any(|key| *key == name)
+    let mut found = false;
+    for key in keys {
+        found = found || *key == name;
+    }
+    found
 }
 
 /// A machine file that is read as a document, and what is refused of it.
@@ -33,33 +40,51 @@ struct Document<'a> {
     lost: Option<&'a [u8]>,
 }
 
-/// The lines of a key, as ` (line 3)`.
-fn say_lines(
+/// The lines of a key as a part of a sentence.
+fn part_of(lines: Option<Lines>) -> Part<'static> {
+    match lines {
+        None => Part::Nothing,
+        Some(Lines { first, last }) => {
+            if first == last {
+                Part::Line(last as u64)
+            } else {
+                Part::Lines(first as u64, last as u64)
+            }
+        }
+    }
+}
+
+/// Where a key stands.
+fn place_of(
     rt: &HostRuntime,
     lookup: &mut Search,
     text: &[u8],
     spot: Spot<'_>,
-) -> anyhow::Result<()> {
-    match lookup.lines_of(rt.alloc(), text, spot)? {
-        None => {}
-        Some(Lines { first, last }) => {
-            if first == last {
-                print!(rt; " (line {last})")?;
-            } else {
-                print!(rt; " (lines {first} to {last})")?;
-            }
-        }
+) -> io::Result<Part<'static>> {
+    match lookup.lines_of(rt.alloc(), text, spot) {
+        Ok(lines) => Ok(part_of(lines)),
+        Err(error) => Err(error),
     }
-    Ok(())
+}
+
+/// Says of a key that nobody reads it.
+fn tell_key_unread(
+    rt: &HostRuntime,
+    lookup: &mut Search,
+    text: &[u8],
+    name: &str,
+) -> io::Result<()> {
+    let place = place_of(rt, lookup, text, Spot::Top(name))?;
+    let shown = Part::Name(name.as_bytes());
+    let rest = " is none of a machine file, and is ignored";
+    say(rt, &Wording::two("  the key `", shown, "`", place, rest))
 }
 
 /// Says which keys nobody reads.
-fn tell_top(rt: &HostRuntime, lookup: &mut Search, file: &Document<'_>) -> anyhow::Result<()> {
+fn tell_top(rt: &HostRuntime, lookup: &mut Search, file: &Document<'_>) -> io::Result<()> {
     for (name, _) in file.table.iter() {
         if !is_among(name.as_str(), &TOP_KEYS) {
-            print!(rt; "  the key `{}`", Shown(name.as_bytes()))?;
-            say_lines(rt, lookup, file.text, Spot::Top(name.as_str()))?;
-            println!(rt; " is none of a machine file, and is ignored")?;
+            tell_key_unread(rt, lookup, file.text, name.as_str())?;
         }
     }
     Ok(())
@@ -105,18 +130,44 @@ fn tell_module(
     file: &Document<'_>,
     number: usize,
     module: &str,
-) -> anyhow::Result<()>
+) -> io::Result<()>
     requires { number < 64 }
 {
-    if is_file_name(file, module) {
-        print!(rt; "  `module` of process {}", number as u64 + 1)?;
-        say_lines(rt, lookup, file.text, Spot::Within(number, "module"))?;
-        println!(rt;
-            " is {}, which is the name of a file: it is to be the name in the executable",
-            Shown(module.as_bytes())
-        )?;
+    if !is_file_name(file, module) {
+        return Ok(());
     }
-    Ok(())
+    let place = place_of(rt, lookup, file.text, Spot::Within(number, "module"))?;
+    let told = Wording::three(
+        "  `module` of process ",
+        Part::Number(number as u64 + 1),
+        "",
+        place,
+        " is ",
+        Part::Name(module.as_bytes()),
+        ", which is the name of a file: it is to be the name in the executable",
+    );
+    say(rt, &told)
+}
+
+/// That nobody reads a key of a process.
+fn unread_key<'a>(number: usize, name: &'a str, place: Part<'a>) -> Wording<'a>
+    requires { number < 64 }
+{
+    let shown = Part::Name(name.as_bytes());
+    if is_among(name, &TOP_KEYS) {
+        Wording::three(
+            "  the key `",
+            shown,
+            "`",
+            place,
+            " stands below [[process]] and so belongs to process ",
+            Part::Number(number as u64 + 1),
+            ", which doesn't read it: put it above the first [[process]]",
+        )
+    } else {
+        let rest = " is none of a process, and is ignored";
+        Wording::two("  the key `", shown, "`", place, rest)
+    }
 }
 
 /// Says of a key of a process that nobody reads it.
@@ -126,20 +177,11 @@ fn tell_unread(
     file: &Document<'_>,
     number: usize,
     name: &str,
-) -> anyhow::Result<()>
+) -> io::Result<()>
     requires { number < 64 }
 {
-    print!(rt; "  the key `{}`", Shown(name.as_bytes()))?;
-    say_lines(rt, lookup, file.text, Spot::Within(number, name))?;
-    if is_among(name, &TOP_KEYS) {
-        println!(rt;
-            " stands below [[process]] and so belongs to process {}, which doesn't read it: put it above the first [[process]]",
-            number as u64 + 1
-        )?;
-    } else {
-        println!(rt; " is none of a process, and is ignored")?;
-    }
-    Ok(())
+    let place = place_of(rt, lookup, file.text, Spot::Within(number, name))?;
+    say(rt, &unread_key(number, name, place))
 }
 
 /// Says what is odd in a process.
@@ -149,7 +191,7 @@ fn tell_process(
     file: &Document<'_>,
     number: usize,
     process: &Table,
-) -> anyhow::Result<()>
+) -> io::Result<()>
     requires { number < 64 }
 {
     for (name, value) in process.iter() {
@@ -166,11 +208,7 @@ fn tell_process(
 }
 
 /// Says what is odd in all processes.
-fn tell_processes(
-    rt: &HostRuntime,
-    lookup: &mut Search,
-    file: &Document<'_>,
-) -> anyhow::Result<()> {
+fn tell_processes(rt: &HostRuntime, lookup: &mut Search, file: &Document<'_>) -> io::Result<()> {
     for number in 0..64usize {
         if let Some(process) = process_of(file.table, number) {
             tell_process(rt, lookup, file, number, process)?;
@@ -303,18 +341,25 @@ fn tell_key(
     lookup: &mut Search,
     file: &Document<'_>,
     key: Key,
-) -> anyhow::Result<()> {
+) -> io::Result<()> {
     let Some(spot) = spot_of(file.table, key) else {
         return Ok(());
     };
-    if let Some(Lines { first, last }) = lookup.lines_of(rt.alloc(), file.text, spot)? {
-        if first == last {
-            println!(rt; "  that is in line {last}")?;
-        } else {
-            println!(rt; "  that is in lines {first} to {last}")?;
+    match lookup.lines_of(rt.alloc(), file.text, spot)? {
+        None => Ok(()),
+        Some(Lines { first, last }) => {
+            let end = Part::Number(last as u64);
+            if first == last {
+                say(rt, &Wording::behind("  that is in line ", end))
+            } else {
+                let begin = Part::Number(first as u64);
+                say(
+                    rt,
+                    &Wording::pair("  that is in lines ", begin, " to ", end),
+                )
+            }
         }
     }
-    Ok(())
 }
 
 /// The module that isn't there.
@@ -325,6 +370,45 @@ fn lost_of(refusal: Option<&OpenFault>) -> Option<&[u8]> {
     }
 }
 
+/// Says why a machine file is no document.
+fn tell_error(rt: &HostRuntime, error: &toml::de::Error) -> io::Result<()> {
+    match format!(in rt.alloc(); "{error}") {
+        Ok(why) => print_lines(rt, " ", why.as_str().as_bytes()),
+        Err(_) => Err(unallocated()),
+    }
+}
+
+/// Says what is odd in a document, and where this key of a refusal stands.
+fn tell_document(rt: &HostRuntime, file: &Document<'_>, key: Option<Key>) -> io::Result<()> {
+    let mut lookup = Search::new();
+    if let Some(key) = key {
+        tell_key(rt, &mut lookup, file, key)?;
+    }
+    tell_top(rt, &mut lookup, file)?;
+    tell_processes(rt, &mut lookup, file)
+}
+
+/// Says what is odd in this text of a machine file, and where the key of a refusal stands.
+fn tell_text(
+    rt: &HostRuntime,
+    text: &[u8],
+    refusal: Option<&OpenFault>,
+    asked: bool,
+) -> io::Result<()> {
+    match toml::table_from_slice(rt.alloc(), text) {
+        Err(error) => tell_error(rt, &error),
+        Ok(table) => {
+            let document = Document {
+                text,
+                table: &table,
+                refused: refusal.is_some(),
+                lost: if asked { lost_of(refusal) } else { None },
+            };
+            tell_document(rt, &document, key_of(refusal))
+        }
+    }
+}
+
 /// Says what is odd in the machine file of this name, and where the key of a refusal stands. `asked` says of a module that isn't there
 /// that a process asks for it.
 pub fn tell(
@@ -332,30 +416,10 @@ pub fn tell(
     name: &Bytes,
     refusal: Option<&OpenFault>,
     asked: bool,
-) -> anyhow::Result<()> {
+) -> io::Result<()> {
     let mut files = FolderFiles::new(rt);
-    let Fetch::Got(file) = files.fetch(rt.alloc(), name, 1_048_576) else {
-        return Ok(());
-    };
-    match toml::table_from_slice(rt.alloc(), file.as_slice()) {
-        Err(error) => {
-            let why = format!(in rt.alloc(); "{error}")?;
-            print_lines(rt, " ", why.as_str().as_bytes())?;
-        }
-        Ok(table) => {
-            let document = Document {
-                text: file.as_slice(),
-                table: &table,
-                refused: refusal.is_some(),
-                lost: if asked { lost_of(refusal) } else { None },
-            };
-            let mut lookup = Search::new();
-            if let Some(key) = key_of(refusal) {
-                tell_key(rt, &mut lookup, &document, key)?;
-            }
-            tell_top(rt, &mut lookup, &document)?;
-            tell_processes(rt, &mut lookup, &document)?;
-        }
+    match files.fetch(rt.alloc(), name, 1_048_576) {
+        Fetch::Got(file) => tell_text(rt, file.as_slice(), refusal, asked),
+        _ => Ok(()),
     }
-    Ok(())
 }

@@ -3,25 +3,31 @@
 
 ghost use Rattle.o2_words.specs.Words.{HasCount};
 
-mod command;
 mod context;
 mod imports;
 mod inventory;
 mod judge;
 mod lines;
 mod machine;
+mod output;
 mod scope;
 mod sentences;
 mod services;
+mod verdict;
+mod wording;
 
-use clap::ArgMatches;
 use context::{Context, read_context};
 use o2_base::{Bytes, NoMemory};
 use o2_open::OpenFault;
 use o2_outer::FolderFiles;
-use o2_tool::{MISUSED, REFUSED, answered, ended, file_name, words};
+use o2_tool::{
+    MISUSED, REFUSED, WhyWords, ended, file_name, no_memory, unallocated, why_words, words,
+};
 use o2_words::{Verb, is_command};
+use output::{complain, say};
+use std::io;
 use std::process::ExitCode;
+use wording::Wording;
 
 /// What the sentence of a refusal goes by beside it.
 fn context_of(
@@ -29,7 +35,7 @@ fn context_of(
     verb: Verb,
     name: &Bytes,
     refusal: Option<&OpenFault>,
-) -> anyhow::Result<Context> {
+) -> io::Result<Context> {
     if verb != Verb::Run {
         return Ok(Context::none());
     }
@@ -39,36 +45,62 @@ fn context_of(
     let mut files = FolderFiles::new(rt);
     match read_context(rt.alloc(), &mut files, name, refusal) {
         Ok(found) => Ok(found),
-        Err(NoMemory) => anyhow::bail!("there is no memory"),
+        Err(NoMemory) => Err(no_memory()),
     }
 }
 
-/// Says what the command in this file comes to.
-fn say(rt: &HostRuntime, verb: Verb, file: &str) -> anyhow::Result<ExitCode>
-    requires { HasCount verb }
-{
-    let name = file_name(rt.alloc(), file)?;
-    let mut files = FolderFiles::new(rt);
-    let refusal = judge::refusal(rt.alloc(), verb, &mut files, &name);
-    if let Some(OpenFault::NoMemory) = &refusal {
-        anyhow::bail!("there is no memory");
-    }
-    let context = context_of(rt, verb, &name, refusal.as_ref())?;
-    let text = sentences::verdict(
-        rt.alloc(),
-        refusal.as_ref(),
-        context.asked,
-        context.listed,
-        &context.shim,
-    )?;
-    println!(rt; "{text}")?;
+/// Says what the command in this file comes to, where its refusal goes by this.
+fn say_with(
+    rt: &HostRuntime,
+    verb: Verb,
+    name: &Bytes,
+    refusal: Option<&OpenFault>,
+    context: &Context,
+) -> io::Result<ExitCode> {
+    let verdict = sentences::verdict(refusal, context.asked, context.listed, &context.shim);
+    say(rt, &verdict)?;
     if verb == Verb::Run {
-        machine::tell(rt, &name, refusal.as_ref(), context.asked)?;
+        machine::tell(rt, name, refusal, context.asked)?;
     }
     if refusal.is_none() {
         Ok(ExitCode::SUCCESS)
     } else {
         Ok(ExitCode::from(REFUSED))
+    }
+}
+
+/// Says what the command in this file comes to, which opens, or is refused for this.
+fn say_of(
+    rt: &HostRuntime,
+    verb: Verb,
+    name: &Bytes,
+    refusal: Option<&OpenFault>,
+) -> io::Result<ExitCode> {
+    if let Some(OpenFault::NoMemory) = refusal {
+        return Err(no_memory());
+    }
+    match context_of(rt, verb, name, refusal) {
+        Ok(context) => say_with(rt, verb, name, refusal, &context),
+        Err(error) => Err(error),
+    }
+}
+
+/// Says what the command in the file of this name comes to.
+fn say_named(rt: &HostRuntime, verb: Verb, name: &Bytes) -> io::Result<ExitCode>
+    requires { HasCount verb }
+{
+    let mut files = FolderFiles::new(rt);
+    let refusal = judge::refusal(rt.alloc(), verb, &mut files, name);
+    say_of(rt, verb, name, refusal.as_ref())
+}
+
+/// Says what the command in this file comes to.
+fn say_file(rt: &HostRuntime, verb: Verb, file: &str) -> io::Result<ExitCode>
+    requires { HasCount verb }
+{
+    match file_name(rt.alloc(), file) {
+        Ok(name) => say_named(rt, verb, &name),
+        Err(_) => Err(unallocated()),
     }
 }
 
@@ -80,33 +112,31 @@ fn behind_name(words: &[String]) -> &[String] {
     }
 }
 
-/// What the matched words ask for. A name that is empty or begins with a dash is none to `os2run`.
-fn obey(rt: &HostRuntime, words: &[String], matches: &ArgMatches<'_>) -> anyhow::Result<ExitCode> {
-    let Some((verb, found)) = matches.subcommand() else {
-        return Ok(ExitCode::SUCCESS);
-    };
-    if verb == "imports" {
-        return inventory::inventory(rt, found);
+/// Says what the command in this file comes to. A name that is empty or begins with a dash is none to `os2run`.
+fn say_checked(rt: &HostRuntime, words: &[String], verb: Verb, file: &str) -> io::Result<ExitCode>
+    requires { HasCount verb }
+{
+    if is_command(behind_name(words)) {
+        return say_file(rt, verb, file);
     }
-    if !is_command(behind_name(words)) {
-        eprintln!(rt; "os2why: these words are no command of os2run")?;
-        return Ok(ExitCode::from(MISUSED));
-    }
-    let file = found.get_str("FILE").unwrap_or("");
-    if verb == "run" {
-        say(rt, Verb::Run, file)
-    } else {
-        say(rt, Verb::Exe, file)
+    complain(rt, Wording::plain("these words are no command of os2run"))?;
+    Ok(ExitCode::from(MISUSED))
+}
+
+/// Does what these words ask for.
+fn obey(rt: &HostRuntime, words: &[String]) -> io::Result<ExitCode> {
+    match why_words(rt, words)? {
+        WhyWords::Exe(file) => say_checked(rt, words, Verb::Exe, file),
+        WhyWords::Run(file) => say_checked(rt, words, Verb::Run, file),
+        WhyWords::Imports(machine, files) => inventory::inventory(rt, machine, files.as_slice()),
+        WhyWords::Answered(code) => Ok(code),
     }
 }
 
-fn run(rt: &HostRuntime) -> anyhow::Result<ExitCode> {
-    let Some(words) = words(rt, "os2why")? else {
-        return Ok(ExitCode::from(MISUSED));
-    };
-    match command::program(rt.alloc())?.try_get_matches_from(words.as_slice()) {
-        Ok(matches) => obey(rt, words.as_slice(), &matches),
-        Err(error) => Ok(answered(rt, &error)?),
+fn run(rt: &HostRuntime) -> io::Result<ExitCode> {
+    match words(rt, "os2why")? {
+        Some(words) => obey(rt, words.as_slice()),
+        None => Ok(ExitCode::from(MISUSED)),
     }
 }
 

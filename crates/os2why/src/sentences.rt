@@ -1,14 +1,16 @@
 // Refusals in sentences.
-ghost use Rattle.std.specs.Prelude.{◌≡◌, ◌≤◌, ◌++◌, IfOk, IfSome, codes, string_bytes, None};
-ghost use Rattle.o2_cli.specs.StatusTexts.{module_reason, machine_text, key_text as text_of_key};
-ghost use Rattle.os2why.specs.Sentences.{which_text, unbuilt_text, known_text, usual_text, service_of, ordinal_text, name_text, lost_text, shim_text, target_text, taken_text, words_of, asks_system, gift_text, beside_text, sentence_of};
+ghost use Rattle.std.specs.Prelude.{◌≡◌, ◌≤◌, ◌++◌, IfSome, codes, None};
+ghost use Rattle.o2_cli.specs.StatusTexts.{module_reason, key_text as text_of_key};
+ghost use Rattle.o2_tool.specs.Text.{shown_text};
+ghost use Rattle.os2why.specs.Sentences.{import_text, call_name, which_text, unbuilt_text, known_text, usual_text, service_of, ordinal_text, name_text, lost_text, shim_text, target_text, taken_text, words_of, asks_system, gift_text, beside_text};
 ghost use Rattle.os2why.specs.Sentences.{form_text, limits_text, machine_words, machine_sentence, place_text, head_text, module_text, cause_text};
+ghost use Rattle.os2why.specs.Wordings.{wording_text, verdict_text};
 
 use crate::services::{call_name, in_table, is_system, service_called, service_of};
+use crate::verdict::Verdict;
+use crate::wording::{Part, Wording};
 use o2_base::{Bytes, Key, MachineFault, ModuleFault, SERVICE_COUNT, Which, is_built};
 use o2_open::OpenFault;
-use o2_tool::Shown;
-use std::alloc::{AllocError, Global};
 
 /// What a table or a limit is about.
 fn which_text(which: Which) -> &'static str
@@ -38,141 +40,165 @@ fn which_text(which: Which) -> &'static str
     }
 }
 
-/// Why an import of a service by its ordinal isn't there: it isn't built.
-fn unbuilt_sentence(
-    alloc: Global,
-    name: &[u8],
-    ordinal: u16,
-    number: u16,
-) -> Result<String, AllocError>
+/// An import of a service by its ordinal, and what is said of it.
+fn service_sentence<'a>(name: &'a [u8], ordinal: u16, number: u16, rest: &'a str) -> Wording<'a>
     requires low { 1 ≤ number }
     requires high { number ≤ SERVICE_COUNT }
-    ensures { IfOk result (λ s. string_bytes s ≡ unbuilt_text name.now ordinal number) }
+    ensures { wording_text result ≡ import_text name.now ordinal (codes " (" ++ (shown_text (call_name number) ++ rest.now)) }
 {
-    let name = Shown(name);
-    let call = Shown(call_name(number));
-    format!(in alloc; "it imports {name}.{ordinal} ({call}), which isn't built yet")
+    Wording::three(
+        "it imports ",
+        Part::Name(name),
+        ".",
+        Part::Number(ordinal as u64),
+        " (",
+        Part::Name(call_name(number)),
+        rest,
+    )
+}
+
+/// Why an import of a service by its ordinal isn't there: it isn't built.
+fn unbuilt_sentence(name: &[u8], ordinal: u16, number: u16) -> Wording<'_>
+    requires low { 1 ≤ number }
+    requires high { number ≤ SERVICE_COUNT }
+    ensures { wording_text result ≡ unbuilt_text name.now ordinal number }
+{
+    service_sentence(name, ordinal, number, "), which isn't built yet")
 }
 
 /// Why an import of a service by its ordinal isn't there: it isn't built, or the machine file leaves it out.
-fn known_sentence(
-    alloc: Global,
-    name: &[u8],
-    ordinal: u16,
-    number: u16,
-) -> Result<String, AllocError>
+fn known_sentence(name: &[u8], ordinal: u16, number: u16) -> Wording<'_>
     requires low { 1 ≤ number }
     requires high { number ≤ SERVICE_COUNT }
-    ensures { IfOk result (λ s. string_bytes s ≡ known_text name.now ordinal number) }
+    ensures { wording_text result ≡ known_text name.now ordinal number }
 {
     if !is_built(number) {
-        return unbuilt_sentence(alloc, name, ordinal, number);
+        return unbuilt_sentence(name, ordinal, number);
     }
-    let name = Shown(name);
-    let call = Shown(call_name(number));
-    format!(in alloc;
-        "it imports {name}.{ordinal} ({call}), which the table [ordinals] of the machine file leaves out"
+    service_sentence(
+        name,
+        ordinal,
+        number,
+        "), which the table [ordinals] of the machine file leaves out",
     )
 }
 
 /// Why an import of an ordinal isn't there under which the machine file has no service.
-fn usual_sentence(alloc: Global, name: &[u8], ordinal: u16) -> Result<String, AllocError>
-    ensures { IfOk result
-        (λ s. string_bytes s ≡ usual_text name.now ordinal (service_of ordinal)) }
+fn usual_sentence(name: &[u8], ordinal: u16) -> Wording<'_>
+    ensures { wording_text result ≡ usual_text name.now ordinal (service_of ordinal) }
 {
     match service_of(ordinal) {
-        Some(number) => known_sentence(alloc, name, ordinal, number),
-        None => {
-            let name = Shown(name);
-            format!(in alloc;
-                "it imports {name}.{ordinal}, and this machine has no call of that ordinal"
-            )
-        }
+        Some(number) => known_sentence(name, ordinal, number),
+        None => Wording::two(
+            "it imports ",
+            Part::Name(name),
+            ".",
+            Part::Number(ordinal as u64),
+            ", and this machine has no call of that ordinal",
+        ),
     }
 }
 
 /// Why an import by an ordinal isn't there. The machine file has the service `listed` under it.
-fn ordinal_sentence(
-    alloc: Global,
-    name: &[u8],
-    ordinal: u16,
-    listed: Option<u16>,
-) -> Result<String, AllocError>
-    ensures { IfOk result (λ s. string_bytes s ≡ ordinal_text name.now ordinal listed) }
+fn ordinal_sentence(name: &[u8], ordinal: u16, listed: Option<u16>) -> Wording<'_>
+    ensures { wording_text result ≡ ordinal_text name.now ordinal listed }
 {
     if !is_system(name) {
-        let name = Shown(name);
-        return format!(in alloc;
-            "it imports {name}.{ordinal}, and {name} has no entry of that ordinal"
+        return Wording::three(
+            "it imports ",
+            Part::Name(name),
+            ".",
+            Part::Number(ordinal as u64),
+            ", and ",
+            Part::Name(name),
+            " has no entry of that ordinal",
         );
     }
     match in_table(listed) {
-        Some(number) => unbuilt_sentence(alloc, name, ordinal, number),
-        None => usual_sentence(alloc, name, ordinal),
+        Some(number) => unbuilt_sentence(name, ordinal, number),
+        None => usual_sentence(name, ordinal),
     }
 }
 
 /// Why an import by a name isn't there.
-fn name_sentence(alloc: Global, name: &[u8], symbol: &[u8]) -> Result<String, AllocError>
-    ensures { IfOk result (λ s. string_bytes s ≡ name_text name.now symbol.now) }
+fn name_sentence<'a>(name: &'a [u8], symbol: &'a [u8]) -> Wording<'a>
+    ensures { wording_text result ≡ name_text name.now symbol.now }
 {
-    let module_name = Shown(name);
-    let call = Shown(symbol);
+    let (module, call) = (Part::Name(name), Part::Name(symbol));
     if !is_system(name) {
-        return format!(in alloc;
-            "it imports {module_name}.{call}, and {module_name} exports no such name"
+        return Wording::three(
+            "it imports ",
+            module,
+            ".",
+            call,
+            ", and ",
+            module,
+            " exports no such name",
         );
     }
     match service_called(symbol) {
-        Some(_) => format!(in alloc; "it imports {module_name}.{call}, which isn't built yet"),
-        None => {
-            format!(in alloc;
-                "it imports {module_name}.{call}, and this machine has no call of that name"
-            )
-        }
+        Some(_) => Wording::two("it imports ", module, ".", call, ", which isn't built yet"),
+        None => Wording::two(
+            "it imports ",
+            module,
+            ".",
+            call,
+            ", and this machine has no call of that name",
+        ),
     }
 }
 
 /// Why a name is none of a module that is there. `asked` says that a process asks for it, and else another module does.
-fn module_sentence(alloc: Global, name: &[u8], asked: bool) -> Result<String, AllocError>
-    ensures { IfOk result (λ s. string_bytes s ≡ lost_text asked name.now) }
+fn module_sentence(name: &[u8], asked: bool) -> Wording<'_>
+    ensures { wording_text result ≡ lost_text asked name.now }
 {
-    let name = Shown(name);
     if asked {
-        format!(in alloc;
-            "a process runs the module {name}, which no file of `modules` is. `module` is the name in the executable, and not the file's"
+        Wording::one(
+            "a process runs the module ",
+            Part::Name(name),
+            ", which no file of `modules` is. `module` is the name in the executable, and not the file's",
         )
     } else {
-        format!(in alloc;
-            "it refers to the module {name}, which is neither DOSCALLS nor a library among the files that are named"
+        Wording::one(
+            "it refers to the module ",
+            Part::Name(name),
+            ", which is neither DOSCALLS nor a library among the files that are named",
         )
     }
 }
 
-/// Why a relocation of a segment isn't done.
-fn target_sentence(alloc: Global, segment: u16, number: u16) -> Result<String, AllocError>
-    ensures { IfOk result (λ s. string_bytes s ≡ target_text segment number) }
+/// Which relocation of a segment isn't done.
+fn target_sentence(segment: u16, number: u16) -> Wording<'static>
+    ensures { wording_text result ≡ target_text segment number }
 {
-    format!(in alloc;
-        "segment {segment}: its relocation {number}, from 0, is of an unknown kind, or what it leads to isn't there"
+    Wording::two(
+        "segment ",
+        Part::Number(segment as u64),
+        ": its relocation ",
+        Part::Number(number as u64),
+        ", from 0, is of an unknown kind, or what it leads to isn't there",
     )
 }
 
 /// Why a module's name isn't its own.
-fn taken_sentence(alloc: Global, name: &[u8]) -> Result<String, AllocError>
-    ensures { IfOk result (λ s. string_bytes s ≡ taken_text name.now) }
+fn taken_sentence(name: &[u8]) -> Wording<'_>
+    ensures { wording_text result ≡ taken_text name.now }
 {
-    let name = Shown(name);
-    format!(in alloc; "another module has its name, {name}, or it is named DOSCALLS")
+    Wording::one(
+        "another module has its name, ",
+        Part::Name(name),
+        ", or it is named DOSCALLS",
+    )
 }
 
 /// Why the key `shim` is refused.
-fn shim_sentence(alloc: Global, name: &[u8]) -> Result<String, AllocError>
-    ensures { IfOk result (λ s. string_bytes s ≡ shim_text name.now) }
+fn shim_sentence(name: &[u8]) -> Wording<'_>
+    ensures { wording_text result ≡ shim_text name.now }
 {
-    let name = Shown(name);
-    format!(in alloc;
-        "no library among the files that are named has the name {name}, which the key `shim` gives"
+    Wording::one(
+        "no library among the files that are named has the name ",
+        Part::Name(name),
+        ", which the key `shim` gives",
     )
 }
 
@@ -214,120 +240,85 @@ fn asks_system(fault: &ModuleFault) -> bool
 }
 
 /// What is told of an import of DOSCALLS: a library may give it, or the one that the machine file names hasn't it.
-fn gift_text(alloc: Global, shim: &Option<Bytes>) -> Result<String, AllocError>
-    ensures { IfOk result (λ s. string_bytes s ≡ gift_text shim.now) }
+fn gift(shim: &Option<Bytes>) -> Wording<'_>
+    ensures { wording_text result ≡ gift_text shim.now }
 {
     match shim {
-        None => {
-            format!(in alloc; ". A library that answers for DOSCALLS (the key `shim`) may give it")
-        }
-        Some(name) => {
-            format!(in alloc; ", and the shim {} has none either", Shown(name.as_slice()))
-        }
+        None => Wording::plain(
+            ". A library that answers for DOSCALLS (the key `shim`) may give it",
+        ),
+        Some(name) => Wording::one(
+            ", and the shim ",
+            Part::Name(name.as_slice()),
+            " has none either",
+        ),
     }
 }
 
 /// What is told of a refusal beside its sentence.
-fn beside_text(
-    alloc: Global,
-    fault: &ModuleFault,
-    shim: &Option<Bytes>,
-) -> Result<String, AllocError>
-    ensures { IfOk result (λ s. string_bytes s ≡ beside_text shim.now fault.now) }
+fn beside<'a>(fault: &ModuleFault, shim: &'a Option<Bytes>) -> Wording<'a>
+    ensures { wording_text result ≡ beside_text shim.now fault.now }
 {
     if asks_system(fault) {
-        gift_text(alloc, shim)
+        gift(shim)
     } else {
-        Ok(String::new(alloc))
+        Wording::plain("")
     }
-}
-
-/// Why a module is refused: the reason's number, and a sentence with every field of the refusal.
-#[tactic(auto, using(std::proofs::Common::append_assoc))]
-fn sentence(
-    alloc: Global,
-    fault: &ModuleFault,
-    asked: bool,
-    listed: Option<u16>,
-    shim: &Option<Bytes>,
-) -> Result<String, AllocError>
-    ensures { IfOk result (λ s. string_bytes s ≡ sentence_of asked listed shim.now fault.now) }
-{
-    let number = reason(fault);
-    let why = words(alloc, fault, asked, listed)?;
-    let beside = beside_text(alloc, fault, shim)?;
-    let text = format!(in alloc; "reason {number}: {why}{beside}")?;
-    Ok(text)
 }
 
 /// Why a module is refused, with every field of the refusal. `asked` says that a process asks for it, and no file has it; the machine
 /// file has the service `listed` under an ordinal that isn't there.
-fn words(
-    alloc: Global,
-    fault: &ModuleFault,
-    asked: bool,
-    listed: Option<u16>,
-) -> Result<String, AllocError>
-    ensures { IfOk result (λ s. string_bytes s ≡ words_of asked listed fault.now) }
+fn words(fault: &ModuleFault, asked: bool, listed: Option<u16>) -> Wording<'_>
+    ensures { wording_text result ≡ words_of asked listed fault.now }
 {
     match fault {
-        ModuleFault::NotMz => { format!(in alloc; "it doesn't begin with MZ: it is no executable") }
-        ModuleFault::NotNe => {
-            format!(in alloc;
-                "there is no NE where the four bytes at 3Ch say: it is a program of DOS, or one of 32 bits"
-            )
-        }
-        ModuleFault::Truncated(place) => {
-            format!(in alloc;
-                "it ends early: byte {place} ({place:X}h), from 0, isn't there. It is cut off, or was copied as text"
-            )
-        }
-        ModuleFault::NotOs2 => {
-            format!(in alloc;
-                "it is for another system, as Windows: byte 36h of its NE header is neither 0 nor 1"
-            )
-        }
-        ModuleFault::LinkErrors => {
-            format!(in alloc; "its linker marked it as having errors (flag 2000h): link it again")
-        }
-        ModuleFault::BadTable(which) => format!(in alloc; "{}", which_text(*which)),
-        ModuleFault::OutOfProfile(which) => format!(in alloc; "{}", which_text(*which)),
-        ModuleFault::BadChain(segment, place) => {
-            format!(in alloc;
-                "segment {segment}: at offset {place:04X}h a relocation's chain leaves the segment's bytes, or meets a byte that is patched already"
-            )
-        }
-        ModuleFault::BadTarget(segment, number) => target_sentence(alloc, *segment, *number),
-        ModuleFault::NoModule(name) => module_sentence(alloc, name.as_slice(), asked),
+        ModuleFault::NotMz => Wording::plain("it doesn't begin with MZ: it is no executable"),
+        ModuleFault::NotNe => Wording::plain(
+            "there is no NE where the four bytes at 3Ch say: it is a program of DOS, or one of 32 bits",
+        ),
+        ModuleFault::Truncated(place) => Wording::two(
+            "it ends early: byte ",
+            Part::Number(*place as u64),
+            " (",
+            Part::Hexadecimal(*place),
+            "h), from 0, isn't there. It is cut off, or was copied as text",
+        ),
+        ModuleFault::NotOs2 => Wording::plain(
+            "it is for another system, as Windows: byte 36h of its NE header is neither 0 nor 1",
+        ),
+        ModuleFault::LinkErrors => Wording::plain(
+            "its linker marked it as having errors (flag 2000h): link it again",
+        ),
+        ModuleFault::BadTable(which) => Wording::plain(which_text(*which)),
+        ModuleFault::OutOfProfile(which) => Wording::plain(which_text(*which)),
+        ModuleFault::BadChain(segment, place) => Wording::two(
+            "segment ",
+            Part::Number(*segment as u64),
+            ": at offset ",
+            Part::Offset(*place),
+            "h a relocation's chain leaves the segment's bytes, or meets a byte that is patched already",
+        ),
+        ModuleFault::BadTarget(segment, number) => target_sentence(*segment, *number),
+        ModuleFault::NoModule(name) => module_sentence(name.as_slice(), asked),
         ModuleFault::NoOrdinal(name, ordinal) => {
-            ordinal_sentence(alloc, name.as_slice(), *ordinal, listed)
+            ordinal_sentence(name.as_slice(), *ordinal, listed)
         }
-        ModuleFault::NoName(name, symbol) => {
-            name_sentence(alloc, name.as_slice(), symbol.as_slice())
-        }
-        ModuleFault::TwoModules(name) => taken_sentence(alloc, name.as_slice()),
-        ModuleFault::NoSelector(name) => {
-            format!(in alloc;
-                "no selectors are left for the segments of the library {}",
-                Shown(name.as_slice())
-            )
-        }
-        ModuleFault::NoStack => {
-            format!(in alloc;
-                "it has no stack: SS names no writable data, or there is neither a stack segment nor automatic data"
-            )
-        }
-        ModuleFault::NoEntry => {
-            format!(in alloc;
-                "it has no entry point: CS:IP lies in no code of it, or past its end, or it is a library"
-            )
-        }
-        ModuleFault::NoSegment => {
-            format!(in alloc;
-                "its processes want more segments than the key `segments` allows: raise it"
-            )
-        }
-        ModuleFault::NoShim(name) => shim_sentence(alloc, name.as_slice()),
+        ModuleFault::NoName(name, symbol) => name_sentence(name.as_slice(), symbol.as_slice()),
+        ModuleFault::TwoModules(name) => taken_sentence(name.as_slice()),
+        ModuleFault::NoSelector(name) => Wording::behind(
+            "no selectors are left for the segments of the library ",
+            Part::Name(name.as_slice()),
+        ),
+        ModuleFault::NoStack => Wording::plain(
+            "it has no stack: SS names no writable data, or there is neither a stack segment nor automatic data",
+        ),
+        ModuleFault::NoEntry => Wording::plain(
+            "it has no entry point: CS:IP lies in no code of it, or past its end, or it is a library",
+        ),
+        ModuleFault::NoSegment => Wording::plain(
+            "its processes want more segments than the key `segments` allows: raise it",
+        ),
+        ModuleFault::NoShim(name) => shim_sentence(name.as_slice()),
     }
 }
 
@@ -401,145 +392,123 @@ fn limits(key: Key) -> &'static str
     }
 }
 
-/// The number of a reason, with its key.
-fn machine_reason(alloc: Global, fault: MachineFault) -> Result<String, AllocError>
-    ensures { IfOk result (λ s. string_bytes s ≡ machine_text fault) }
+/// Why a machine file is refused.
+fn machine_words(fault: MachineFault) -> Wording<'static>
+    ensures { wording_text result ≡ machine_words fault }
 {
     match fault {
-        MachineFault::BadToml => String::from_str(alloc, "1 "),
-        MachineFault::Missing(key) => format!(in alloc; "2 {}", key_text(key)),
-        MachineFault::BadValue(key) => format!(in alloc; "3 {}", key_text(key)),
-        MachineFault::Limit(key) => format!(in alloc; "4 {}", key_text(key)),
+        MachineFault::BadToml => Wording::plain("it is no TOML document"),
+        MachineFault::Missing(key) => {
+            Wording::one("the key `", Part::Text(key_text(key)), "` is missing")
+        }
+        MachineFault::BadValue(key) => Wording::pair(
+            "the key `",
+            Part::Text(key_text(key)),
+            "` has another type or form: it is ",
+            Part::Text(form(key)),
+        ),
+        MachineFault::Limit(key) => Wording::pair(
+            "the key `",
+            Part::Text(key_text(key)),
+            "` is outside its limits: ",
+            Part::Text(limits(key)),
+        ),
     }
 }
 
-/// Why a machine file is refused: the reason's number with the key, and a sentence.
-#[tactic(auto, using(std::proofs::Common::append_assoc))]
-pub fn machine_sentence(alloc: Global, fault: MachineFault) -> Result<String, AllocError>
-    ensures { IfOk result (λ s. string_bytes s ≡ machine_sentence fault) }
+/// That a machine file is refused, with the reason's number, its key, and a sentence.
+fn machine_refusal(fault: MachineFault) -> Verdict<'static>
+    ensures { verdict_text result ≡ codes "it isn't opened: " ++ (codes "the machine file is refused\n  " ++ machine_sentence fault) }
 {
-    let number = machine_reason(alloc, fault)?;
-    let why = machine_words(alloc, fault)?;
-    let text = format!(in alloc; "reason {number}: {why}")?;
-    Ok(text)
-}
-
-/// Why a machine file is refused.
-fn machine_words(alloc: Global, fault: MachineFault) -> Result<String, AllocError>
-    ensures { IfOk result (λ s. string_bytes s ≡ machine_words fault) }
-{
+    let why = machine_words(fault);
     match fault {
-        MachineFault::BadToml => format!(in alloc; "it is no TOML document"),
-        MachineFault::Missing(key) => {
-            format!(in alloc; "the key `{}` is missing", key_text(key))
-        }
-        MachineFault::BadValue(key) => {
-            format!(in alloc;
-                "the key `{}` has another type or form: it is {}",
-                key_text(key),
-                form(key)
-            )
-        }
-        MachineFault::Limit(key) => {
-            format!(in alloc;
-                "the key `{}` is outside its limits: {}",
-                key_text(key),
-                limits(key)
-            )
-        }
+        MachineFault::BadToml => Verdict::Machine("1 ", "", why),
+        MachineFault::Missing(key) => Verdict::Machine("2 ", key_text(key), why),
+        MachineFault::BadValue(key) => Verdict::Machine("3 ", key_text(key), why),
+        MachineFault::Limit(key) => Verdict::Machine("4 ", key_text(key), why),
     }
 }
 
 /// What is refused: the module in a file, or a process whose module no file has.
-fn place_text(alloc: Global, name: &Bytes, asked: bool) -> Result<String, AllocError>
-    ensures { IfOk result (λ s. string_bytes s ≡ place_text asked name.now) }
+fn place(name: &Bytes, asked: bool) -> Wording<'_>
+    ensures { wording_text result ≡ place_text asked name.now }
 {
     if asked {
-        format!(in alloc; "a process has no module")
+        Wording::plain("a process has no module")
     } else {
-        format!(in alloc; "the module in {} is refused", Shown(name.as_slice()))
+        Wording::one("the module in ", Part::Name(name.as_slice()), " is refused")
     }
 }
 
 /// What is refused: the key `shim`, or else a module or a process.
-fn head_text(
-    alloc: Global,
-    name: &Bytes,
-    fault: &ModuleFault,
-    asked: bool,
-) -> Result<String, AllocError>
-    ensures { IfOk result (λ s. string_bytes s ≡ head_text asked name.now fault.now) }
+fn head<'a>(name: &'a Bytes, fault: &ModuleFault, asked: bool) -> Wording<'a>
+    ensures { wording_text result ≡ head_text asked name.now fault.now }
 {
     match fault {
-        ModuleFault::NoShim(_) => format!(in alloc; "the key `shim` names no listed library"),
-        _ => place_text(alloc, name, asked),
+        ModuleFault::NoShim(_) => Wording::plain("the key `shim` names no listed library"),
+        _ => place(name, asked),
     }
 }
 
-/// Why a module doesn't open, with the file that it is in. `asked` says that a process asks for it, and no file has it; the machine
-/// file has the service `listed` under an ordinal that isn't there, and names the library `shim`.
-#[tactic(auto, using(std::proofs::Common::append_assoc))]
-fn module_text(
-    alloc: Global,
-    name: &Bytes,
-    fault: &ModuleFault,
+/// That a module is refused, with the file that it is in, the reason's number, and a sentence with every field of the refusal. `asked`
+/// says that a process asks for it, and no file has it; the machine file has the service `listed` under an ordinal that isn't there, and
+/// names the library `shim`.
+fn module_refusal<'a>(
+    name: &'a Bytes,
+    fault: &'a ModuleFault,
     asked: bool,
     listed: Option<u16>,
-    shim: &Option<Bytes>,
-) -> Result<String, AllocError>
-    ensures { IfOk result
-        (λ s. string_bytes s ≡ module_text asked listed shim.now name.now fault.now) }
+    shim: &'a Option<Bytes>,
+) -> Verdict<'a>
+    ensures { verdict_text result
+        ≡ codes "it isn't opened: " ++ module_text asked listed shim.now name.now fault.now }
 {
-    let why = sentence(alloc, fault, asked, listed, shim)?;
-    let head = head_text(alloc, name, fault, asked)?;
-    let text = format!(in alloc; "{head}\n  {why}")?;
-    Ok(text)
+    Verdict::Module(
+        head(name, fault, asked),
+        reason(fault),
+        words(fault, asked, listed),
+        beside(fault, shim),
+    )
 }
 
-/// Why a command isn't opened, as `verdict` says it.
-fn cause(
-    alloc: Global,
-    fault: &OpenFault,
+/// That a command isn't opened, and why.
+fn refused<'a>(
+    fault: &'a OpenFault,
     asked: bool,
     listed: Option<u16>,
-    shim: &Option<Bytes>,
-) -> Result<String, AllocError>
-    ensures { IfOk result (λ s. string_bytes s ≡ cause_text asked listed shim.now fault.now) }
+    shim: &'a Option<Bytes>,
+) -> Verdict<'a>
+    ensures { verdict_text result
+        ≡ codes "it isn't opened: " ++ cause_text asked listed shim.now fault.now }
 {
     match fault {
-        OpenFault::NoFile(name) => format!(in alloc; "there is no file {}", Shown(name.as_slice())),
-        OpenFault::BadMachine(fault) => {
-            let why = machine_sentence(alloc, *fault)?;
-            let text = format!(in alloc; "the machine file is refused\n  {why}")?;
-            Ok(text)
-        }
-        OpenFault::BadModule(name, fault) => module_text(alloc, name, fault, asked, listed, shim),
-        OpenFault::FileFault => format!(in alloc; "a file can't be read"),
-        OpenFault::NoMemory => format!(in alloc; "there is no memory for it"),
+        OpenFault::NoFile(name) => Verdict::Other(Wording::behind(
+            "there is no file ",
+            Part::Name(name.as_slice()),
+        )),
+        OpenFault::BadMachine(fault) => machine_refusal(*fault),
+        OpenFault::BadModule(name, fault) => module_refusal(name, fault, asked, listed, shim),
+        OpenFault::FileFault => Verdict::Other(Wording::plain("a file can't be read")),
+        OpenFault::NoMemory => Verdict::Other(Wording::plain("there is no memory for it")),
     }
 }
 
 /// What a command comes to: that it opens, or why not. `asked` says of a module that isn't there that a process asks for it, and not a
 /// module; `listed` is the service that the machine file has under an ordinal that isn't there, and `shim` the library that it names.
-pub fn verdict(
-    alloc: Global,
-    refusal: Option<&OpenFault>,
+pub fn verdict<'a>(
+    refusal: Option<&'a OpenFault>,
     asked: bool,
     listed: Option<u16>,
-    shim: &Option<Bytes>,
-) -> Result<String, AllocError>
+    shim: &'a Option<Bytes>,
+) -> Verdict<'a>
     // "it opens" exactly where there is no refusal
-    ensures opens { IfOk result (λ s. refusal.entry ≡ None → string_bytes s ≡ codes "it opens") }
+    ensures opens { refusal.entry ≡ None → verdict_text result ≡ codes "it opens" }
     // and else the cause, with each name and number of the refusal
-    ensures refused { IfOk result (λ s. IfSome refusal.entry (λ fault.
-        string_bytes s ≡ codes "it isn't opened: " ++ cause_text asked listed shim.now fault.now)) }
+    ensures refused { IfSome refusal.entry (λ fault.
+        verdict_text result ≡ codes "it isn't opened: " ++ cause_text asked listed shim.now fault.now) }
 {
     match refusal {
-        None => format!(in alloc; "it opens"),
-        Some(fault) => {
-            let why = cause(alloc, fault, asked, listed, shim)?;
-            let text = format!(in alloc; "it isn't opened: {why}")?;
-            Ok(text)
-        }
+        None => Verdict::Opens,
+        Some(fault) => refused(fault, asked, listed, shim),
     }
 }

@@ -1,4 +1,4 @@
-use Rattle.std.proofs.Common.{◌≡◌, ◌++◌, ◌∷◌, [], List, ℕ, None, arith, refl, subst, sym}
+use Rattle.std.proofs.Common.{List, None, arith, refl, subst, sym}
 use Rattle.os2core.specs.declared.spans.Span.{Span}
 use Rattle.os2core.specs.Adjoining.{Adjoin}
 use Rattle.os2core.proofs.Adjoined.{more}

@@ -3,14 +3,8 @@ use Rattle.o2_machine.specs.GoesOver.{GoesOver}
 use Rattle.o2_outer.specs.Devices.{swap_blocks}
 use Rattle.os2trace.proofs.follow.turned.Goals as goal
 
-pub shown_turn-requires : goal.shown_turn-requires
-shown_turn-requires c = record {
-  going = c.chosen_step.ensures.going (swap_blocks c.empty.new.outside.swap)
-      (subst (λ (n : ℕ). GoesOver c.args.machine.now.space c.args.machine.now.sched n) (sym c.empty.ensures.blocks) c.requires.going);
-}
-
-pub unseen_turn-requires : goal.unseen_turn-requires
-unseen_turn-requires c = record {
-  going = c.chosen_step.ensures.going (swap_blocks c.empty.new.outside.swap)
+pub taken_turn-requires : goal.taken_turn-requires
+taken_turn-requires c = record {
+  going = c.next_step-next.ensures.going (swap_blocks c.empty.new.outside.swap)
       (subst (λ (n : ℕ). GoesOver c.args.machine.now.space c.args.machine.now.sched n) (sym c.empty.ensures.blocks) c.requires.going);
 }
