@@ -19,114 +19,96 @@ mod stored;
 
 use decoding::decode_many;
 use memory::{fit_many, list_many, slide_many, victim_many};
+use o2_base::NoMemory;
 use readers::{check_many, fill_many, name_many};
-use regions::{grant_many, holder_many, lowest_many, make_many, walk_many};
+use regions::{Act, act_many, make_many};
 use serving::serve_many;
+use std::alloc::Global;
 use std::time::Instant;
 use std::{env, io};
-use stepping::{CALLS, LOOP, MOVES, STRINGS, SUMS, step_each, step_many};
+use stepping::{CALLS, LOOP, MOVES, STRINGS, SUMS, step_many};
 use store::{copy_many, swap_many};
-use stored::{store_each, store_many};
+use stored::store_many;
 
 const STEPS: u64 = 3_000_000;
 
 const ROUNDS: u64 = 300_000;
 
+/// The code that a name stands for.
+fn code_of(name: &str) -> Option<&'static [u8]> {
+    match name {
+        "loop" => Some(LOOP.as_slice()),
+        "moves" => Some(MOVES.as_slice()),
+        "sums" => Some(SUMS.as_slice()),
+        "calls" => Some(CALLS.as_slice()),
+        "strings" => Some(STRINGS.as_slice()),
+        _ => None,
+    }
+}
+
+/// Steps of code, over the memory that is named behind it.
+fn measure_steps(alloc: Global, code: &[u8], over: &str) -> Result<u64, NoMemory> {
+    match over {
+        "" => step_many(alloc, code, STEPS, false),
+        "each" => step_many(alloc, code, STEPS, true),
+        "store" => store_many(alloc, code, STEPS, false),
+        "store-each" => store_many(alloc, code, STEPS, true),
+        _ => Ok(0),
+    }
+}
+
+/// Calls on who holds which index, and segments that leave the memory.
+fn measure_tables(alloc: Global, name: &str) -> Result<u64, NoMemory> {
+    match name {
+        "tables" => make_many(alloc, 20),
+        "lowest" => act_many(alloc, Act::Lowest, STEPS),
+        "runs" => act_many(alloc, Act::Runs, STEPS),
+        "grants" => act_many(alloc, Act::Grants, STEPS),
+        "walks" => act_many(alloc, Act::Walks, 10_000),
+        "holders" => act_many(alloc, Act::Holders, 10_000),
+        "swaps" => swap_many(alloc, 500, 65_536, 100_000),
+        "halves" => swap_many(alloc, 1000, 32_768, 100_000),
+        "copies" => copy_many(alloc, 67_108_864, 65_536, 200_000),
+        _ => Ok(0),
+    }
+}
+
+/// Calls that have a size; none for another name.
+fn measure_sized(alloc: Global, name: &str, size: u16) -> Option<Result<u64, NoMemory>> {
+    Some(match name {
+        "check" => check_many(alloc, size),
+        "fill" => fill_many(alloc, size),
+        "names" => name_many(alloc, size),
+        "fit" => fit_many(alloc, size),
+        "victim" => victim_many(alloc, size),
+        "slide" => slide_many(alloc, size),
+        "blocks" => list_many(alloc, size),
+        "serve" => serve_many(alloc, size),
+        _ => return None,
+    })
+}
+
 /// What the name stands for, done many times; 0 for another name, and where there is no memory.
-fn measure(rt: &HostRuntime, name: &str) -> u64 {
-    let (first, over) = match name.split_once('-') {
-        Some(pair) => pair,
-        None => (name, ""),
+fn measure(alloc: Global, name: &str) -> u64 {
+    let (sized, size) = name.split_once('=').unwrap_or((name, "1000"));
+    let (first, over) = name.split_once('-').unwrap_or((name, ""));
+    if first == "decode" {
+        return decode_many(ROUNDS);
+    }
+    let done = match code_of(first) {
+        Some(code) => measure_steps(alloc, code, over),
+        None => match measure_sized(alloc, sized, size.parse().unwrap_or(0)) {
+            Some(done) => done,
+            None => measure_tables(alloc, name),
+        },
     };
-    match first {
-        "decode" => decode_many(ROUNDS),
-        "loop" => measure_steps(rt, &LOOP, over),
-        "moves" => measure_steps(rt, &MOVES, over),
-        "sums" => measure_steps(rt, &SUMS, over),
-        "calls" => measure_steps(rt, &CALLS, over),
-        "strings" => measure_steps(rt, &STRINGS, over),
-        _ => measure_regions(rt, name),
-    }
-}
-
-/// Steps of this code, over the memory that is named.
-fn measure_steps(rt: &HostRuntime, code: &[u8], over: &str) -> u64 {
-    let done = match over {
-        "" => step_many(rt.alloc(), code, STEPS),
-        "each" => step_each(rt.alloc(), code, STEPS),
-        "store" => store_many(rt.alloc(), code, STEPS),
-        "store-each" => store_each(rt.alloc(), code, STEPS),
-        _ => return 0,
-    };
-    match done {
-        Ok(done) => done,
-        Err(_) => 0,
-    }
-}
-
-/// The same for the names of calls on who holds which index.
-fn measure_regions(rt: &HostRuntime, name: &str) -> u64 {
-    let done = match name {
-        "tables" => make_many(rt.alloc(), 20),
-        "lowest" => lowest_many(rt.alloc(), STEPS, 1),
-        "runs" => lowest_many(rt.alloc(), STEPS, 500),
-        "grants" => grant_many(rt.alloc(), STEPS),
-        "walks" => walk_many(rt.alloc(), 10_000),
-        "holders" => holder_many(rt.alloc(), 10_000),
-        _ => return measure_store(rt, name),
-    };
-    match done {
-        Ok(done) => done,
-        Err(_) => 0,
-    }
-}
-
-/// The same for the names of segments that leave the memory.
-fn measure_store(rt: &HostRuntime, name: &str) -> u64 {
-    let done = match name {
-        "swaps" => swap_many(rt.alloc(), 500, 65_536, 100_000),
-        "halves" => swap_many(rt.alloc(), 1000, 32_768, 100_000),
-        "copies" => copy_many(rt.alloc(), 67_108_864, 65_536, 200_000),
-        _ => return measure_sized(rt, name),
-    };
-    match done {
-        Ok(done) => done,
-        Err(_) => 0,
-    }
-}
-
-/// A name and the size behind it.
-fn parts(name: &str) -> (&str, u16) {
-    match name.split_once('=') {
-        Some((first, size)) => (first, size.parse().unwrap_or(0)),
-        None => (name, 1000),
-    }
-}
-
-/// The same for the names that have a size.
-fn measure_sized(rt: &HostRuntime, name: &str) -> u64 {
-    let (first, size) = parts(name);
-    let done = match first {
-        "check" => check_many(rt.alloc(), size),
-        "fill" => fill_many(rt.alloc(), size),
-        "names" => name_many(rt.alloc(), size),
-        "fit" => fit_many(rt.alloc(), size),
-        "victim" => victim_many(rt.alloc(), size),
-        "slide" => slide_many(rt.alloc(), size),
-        "blocks" => list_many(rt.alloc(), size),
-        "serve" => serve_many(rt.alloc(), size),
-        _ => return 0,
-    };
-    match done {
-        Ok(done) => done,
-        Err(_) => 0,
-    }
+    done.unwrap_or(0)
 }
 
 fn main(rt: HostRuntime) -> io::Result<()> {
     for name in env::args(&rt)?.skip(1) {
         let start = Instant::now(&rt)?;
-        let done = measure(&rt, name.as_str());
+        let done = measure(rt.alloc(), name.as_str());
         let spent = start.elapsed(&rt)?;
         println!(rt; "{name} {done} {}", spent.as_millis())?;
     }

@@ -1,5 +1,5 @@
 // The check of a module, its names, and the image of its segment, for so many records or names.
-ghost use Rattle.std.specs.Prelude.{◌≡◌, ◌≤◌, length};
+ghost use Rattle.std.specs.Prelude.{◌≡◌, length};
 
 use o2_base::{Bytes, NoMemory};
 use o2_image::{Module, Resolved};
@@ -23,9 +23,8 @@ static HEAD: [u8; 146] = [
     0x01, 0x4d,
 ];
 
-// A file whose segment has so many records, each for the low byte at a place of its own.
-fn with_records(alloc: Global, count: u16) -> Result<Vec<u8>, NoMemory> {
-    let mut file = HEAD.to_vec(alloc)?;
+// Adds so many records behind the head of a file, each for the low byte at a place of its own.
+fn add_records(file: &mut Vec<u8>, count: u16) -> Result<(), NoMemory> {
     file.extend_from_slice(&[1, 0x4d, 0, 0, 0])?;
     file.resize(512 + 65536, 0)?;
     file.extend_from_slice(&count.to_le_bytes())?;
@@ -33,28 +32,15 @@ fn with_records(alloc: Global, count: u16) -> Result<Vec<u8>, NoMemory> {
         let [low, high] = place.to_le_bytes();
         file.extend_from_slice(&[0, 0, low, high, 1, 0, 0, 0])?;
     }
-    Ok(file)
-}
-
-// The module of a file, where it is one.
-fn checked(alloc: Global, file: Vec<u8>) -> Option<Module> {
-    if file.len() > 4_194_304 {
-        return None;
-    }
-    match Module::check(alloc, Bytes::new(file)) {
-        Ok(module) => Some(module),
-        Err(_) => None,
-    }
+    Ok(())
 }
 
 /// Checks a module of so many records; how many were checked.
 pub fn check_many(alloc: Global, count: u16) -> Result<u64, NoMemory> {
     let mut done: u64 = 0;
     for _ in 0..ROUNDS {
-        let file = with_records(alloc, count)?;
-        if let Some(module) = checked(alloc, file) {
-            done = done.wrapping_add(u64::from(module.reloc_count()));
-        }
+        let module = module_of(alloc, false, count)?;
+        done = done.wrapping_add(u64::from(module.reloc_count()));
     }
     Ok(done)
 }
@@ -72,17 +58,15 @@ fn fill_once(module: &Module, targets: &Resolved, into: &mut [u8]) -> bool
 
 /// Writes the image of a segment of so many records; how many patches were written.
 pub fn fill_many(alloc: Global, count: u16) -> Result<u64, NoMemory> {
-    let file = with_records(alloc, count)?;
     let mut lists = Vec::new(alloc);
     lists.push(vec![in alloc; (7u16, 1u16); usize::from(count)]?)?;
-    let targets = Resolved::new(lists);
     let mut into = vec![in alloc; 0u8; 65536]?;
+    let module = module_of(alloc, false, count)?;
+    let targets = Resolved::new(lists);
     let mut done: u64 = 0;
-    if let Some(module) = checked(alloc, file) {
-        for _ in 0..ROUNDS {
-            if fill_once(&module, &targets, into.as_mut_slice()) {
-                done = done.wrapping_add(u64::from(count));
-            }
+    for _ in 0..ROUNDS {
+        if fill_once(&module, &targets, into.as_mut_slice()) {
+            done = done.wrapping_add(u64::from(count));
         }
     }
     Ok(done)
@@ -98,9 +82,8 @@ fn name_of(n: u16) -> [u8; 3] {
     [mark(n), mark(n / 61), mark(n / 3721)]
 }
 
-// A file with so many names of three bytes.
-fn with_names(alloc: Global, count: u16) -> Result<Vec<u8>, NoMemory> {
-    let mut file = HEAD.to_vec(alloc)?;
+// Adds so many names of three bytes behind the head of a file.
+fn add_names(file: &mut Vec<u8>, count: u16) -> Result<(), NoMemory> {
     // the segment has no records
     if let Some(high) = file.get_mut(133) {
         *high = 0;
@@ -114,18 +97,33 @@ fn with_names(alloc: Global, count: u16) -> Result<Vec<u8>, NoMemory> {
     if file.len() < 512 + 65536 {
         file.resize(512 + 65536, 0)?;
     }
-    Ok(file)
+    Ok(())
+}
+
+// A module of so many names, or of so many records.
+fn module_of(alloc: Global, named: bool, count: u16) -> Result<Module, NoMemory> {
+    let mut file = HEAD.to_vec(alloc)?;
+    if named {
+        add_names(&mut file, count)?;
+    } else {
+        add_records(&mut file, count)?;
+    }
+    if file.len() > 4_194_304 {
+        return Err(NoMemory);
+    }
+    match Module::check(alloc, Bytes::new(file)) {
+        Ok(module) => Ok(module),
+        Err(_) => Err(NoMemory),
+    }
 }
 
 /// Reads a module of so many names and looks each of them up; how many were found.
 pub fn name_many(alloc: Global, count: u16) -> Result<u64, NoMemory> {
-    let file = with_names(alloc, count)?;
+    let module = module_of(alloc, true, count)?;
     let mut done: u64 = 0;
-    if let Some(module) = checked(alloc, file) {
-        for n in 0..count {
-            if module.names().ordinal(&name_of(n)) == Some(1) {
-                done = done.wrapping_add(1);
-            }
+    for n in 0..count {
+        if module.names().ordinal(&name_of(n)) == Some(1) {
+            done = done.wrapping_add(1);
         }
     }
     Ok(done)

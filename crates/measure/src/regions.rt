@@ -54,23 +54,22 @@ pub fn make_many(alloc: Global, rounds: u64) -> Result<u64, NoMemory> {
     Ok(done)
 }
 
-/// Looks so many times for the lowest of a process's indexes, of which the first 2,000 are taken.
-pub fn lowest_many(alloc: Global, rounds: u64, count: u16) -> Result<u64, NoMemory>
+// Takes the first 2,000 of a process's indexes, and looks so many times for its lowest run of so many.
+fn lowest_in(regions: &mut Regions, rounds: u64, count: u16) -> u64
     requires { 0 < count }
 {
-    let mut regions = Regions::new(alloc, 1)?;
     for key in 0..2000 {
-        let _ = hold(&mut regions, 1, key);
+        let _ = hold(regions, 1, key);
     }
     let mut done: u64 = 0;
-    if is_process(&regions, 1) {
+    if is_process(regions, 1) {
         for _ in 0..rounds {
             if regions.lowest(Region::Private(1), count).is_some() {
                 done = done.wrapping_add(1);
             }
         }
     }
-    Ok(done)
+    done
 }
 
 // Grants a hold at an index and takes it again.
@@ -87,33 +86,19 @@ fn grant_and_drop(regions: &mut Regions, pid: u16, index: u16, key: u32)
     }
 }
 
-/// Grants so many holds at an index where nothing is held, and takes each again.
-pub fn grant_many(alloc: Global, rounds: u64) -> Result<u64, NoMemory> {
-    let mut regions = Regions::new(alloc, PROCESSES)?;
+// Grants so many holds at an index where nothing is held, and takes each again.
+fn grants_in(regions: &mut Regions, rounds: u64) -> u64
+    requires { regions.old.processes ≡ 64 }
+{
     let mut done: u64 = 0;
     if let Some(4096) = regions.lowest(Region::Shared, 1) {
         regions.reserve(Region::Shared, 4096, 1);
         for _round in 0..rounds {
-            grant_and_drop(&mut regions, 9, 4096, 77);
+            grant_and_drop(regions, 9, 4096, 77);
             done = done.wrapping_add(1);
         }
     }
-    Ok(done)
-}
-
-/// Walks so many times over the 100 indexes that a process holds, and looks up what is held there and its descriptor.
-pub fn walk_many(alloc: Global, rounds: u64) -> Result<u64, NoMemory> {
-    let mut regions = Regions::new(alloc, PROCESSES)?;
-    for key in 0..100 {
-        let _ = hold(&mut regions, 9, key);
-    }
-    let mut done: u64 = 0;
-    if is_process(&regions, 9) {
-        for _ in 0..rounds {
-            done = done.wrapping_add(walk(&regions, 9));
-        }
-    }
-    Ok(done)
+    done
 }
 
 // How many indexes a process holds.
@@ -141,11 +126,24 @@ fn walk(regions: &Regions, pid: u16) -> u64
     done
 }
 
-/// Asks so many times for each holder of a segment that 64 processes hold.
-pub fn holder_many(alloc: Global, rounds: u64) -> Result<u64, NoMemory> {
-    let mut regions = Regions::new(alloc, PROCESSES)?;
+// Has a process hold 100 segments, and walks so many times over them, each with its descriptor.
+fn walks_in(regions: &mut Regions, rounds: u64) -> u64 {
+    for key in 0..100 {
+        let _ = hold(regions, 9, key);
+    }
+    let mut done: u64 = 0;
+    if is_process(regions, 9) {
+        for _ in 0..rounds {
+            done = done.wrapping_add(walk(regions, 9));
+        }
+    }
+    done
+}
+
+// Has 64 processes hold a segment, and asks so many times for each holder.
+fn holders_in(regions: &mut Regions, rounds: u64) -> u64 {
     for pid in 1..PROCESSES + 1 {
-        let _ = hold(&mut regions, pid, 77);
+        let _ = hold(regions, pid, 77);
     }
     let id = SegId { key: 77, age: 0 };
     let mut done: u64 = 0;
@@ -156,5 +154,32 @@ pub fn holder_many(alloc: Global, rounds: u64) -> Result<u64, NoMemory> {
             }
         }
     }
-    Ok(done)
+    done
+}
+
+/// What is done with the tables of 64 processes.
+#[derive(Clone, Copy)]
+pub enum Act {
+    /// Looks for the lowest index of a process, of which the first 2,000 are taken.
+    Lowest,
+    /// Looks for the lowest run of 500 indexes.
+    Runs,
+    /// Grants a hold at an index where nothing is held, and takes it again.
+    Grants,
+    /// Walks over the 100 indexes that a process holds, and looks up what is held there and its descriptor.
+    Walks,
+    /// Asks for each holder of a segment that 64 processes hold.
+    Holders,
+}
+
+/// Does something so many times with the tables of 64 processes; how often it was done.
+pub fn act_many(alloc: Global, act: Act, rounds: u64) -> Result<u64, NoMemory> {
+    let mut regions = Regions::new(alloc, PROCESSES)?;
+    Ok(match act {
+        Act::Lowest => lowest_in(&mut regions, rounds, 1),
+        Act::Runs => lowest_in(&mut regions, rounds, 500),
+        Act::Grants => grants_in(&mut regions, rounds),
+        Act::Walks => walks_in(&mut regions, rounds),
+        Act::Holders => holders_in(&mut regions, rounds),
+    })
 }

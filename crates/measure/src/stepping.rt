@@ -94,39 +94,40 @@ fn hold(
     plain.hold(alloc, 1, index, name, access.0)
 }
 
-/// A memory with this code, data and stack, all of which process 1 holds.
-fn memory(alloc: Global, code: &[u8]) -> Result<Plain, NoMemory> {
-    let mut plain = Plain::new(alloc)?;
+/// Process 1 holds this code, data and a stack.
+fn hold_all(plain: &mut Plain, alloc: Global, code: &[u8]) -> Result<(), NoMemory> {
     if code.len() == 0 || code.len() > 4096 {
         return Err(NoMemory);
     }
     let code = code.to_vec(alloc)?;
-    hold(&mut plain, alloc, 1, code, Access::READABLE_CODE)?;
+    hold(plain, alloc, 1, code, Access::READABLE_CODE)?;
     for index in 2u16..4 {
         let zeros = vec![in alloc; 0u8; 4096]?;
-        hold(&mut plain, alloc, index, zeros, Access::WRITABLE_DATA)?;
+        hold(plain, alloc, index, zeros, Access::WRITABLE_DATA)?;
     }
-    Ok(plain)
+    Ok(())
 }
 
-/// So many steps of this code over one bus; the answer is how many were done.
-pub fn step_many(alloc: Global, code: &[u8], steps: u64) -> Result<u64, NoMemory> {
-    let mut plain = memory(alloc, code)?;
-    let mut cpu = start();
-    let mut bus = plain.bus(1, &cpu);
-    Ok(count_done(&mut cpu, &mut bus, steps))
-}
-
-/// The same with a bus for each step.
-pub fn step_each(alloc: Global, code: &[u8], steps: u64) -> Result<u64, NoMemory> {
-    let mut plain = memory(alloc, code)?;
-    let mut cpu = start();
+// So many steps with a bus for each; the answer is how many were done.
+fn each_in(plain: &mut Plain, cpu: &mut Cpu, steps: u64) -> u64 {
     let mut done = 0u64;
     for _ in 0..steps {
-        match step_plain(&mut plain, 1, &mut cpu) {
+        match step_plain(plain, 1, cpu) {
             Outcome::Done => done = done.wrapping_add(1),
             _ => {}
         }
     }
-    Ok(done)
+    done
+}
+
+/// So many steps of this code, over one bus or with a bus for each; the answer is how many were done.
+pub fn step_many(alloc: Global, code: &[u8], steps: u64, each: bool) -> Result<u64, NoMemory> {
+    let mut plain = Plain::new(alloc)?;
+    hold_all(&mut plain, alloc, code)?;
+    let mut cpu = start();
+    if each {
+        return Ok(each_in(&mut plain, &mut cpu, steps));
+    }
+    let mut bus = plain.bus(1, &cpu);
+    Ok(count_done(&mut cpu, &mut bus, steps))
 }

@@ -1,5 +1,5 @@
 // Segments that share a memory and leave it for a swap device.
-ghost use Rattle.std.specs.Prelude.{◌≡◌, ◌+◌, ◌<◌, ◌≤◌, ◌^◌, length};
+ghost use Rattle.std.specs.Prelude.{◌≡◌, ◌<◌, ◌≤◌, length};
 ghost use Rattle.o2_outer.specs.Devices.{swap_blocks};
 ghost use Rattle.o2_store.specs.Trials.{IsReady};
 
@@ -7,8 +7,9 @@ use o2_base::NoMemory;
 use o2_image::Images;
 use o2_outer::SureSwap;
 use o2_place::SegId;
-use o2_store::{Attr, Brought, Store};
+use o2_store::{Brought, Store};
 use std::alloc::Global;
+use test_store_calls::{add, bring};
 
 /// The memory's size in bytes.
 const MEMORY: u32 = 1_048_576;
@@ -18,32 +19,6 @@ const BLOCKS: u32 = 65_536;
 
 /// A segment's size in bytes.
 const SIZE: u32 = 65_536;
-
-// Adds a segment of zeros.
-fn add(store: &mut Store, images: &Images, swap: &SureSwap) -> Option<SegId>
-    requires ready { IsReady store.old images.now (swap_blocks swap.now) }
-    requires few { store.old.made < 2 ^ 32 }
-    ensures ready { IsReady store.new images.now (swap_blocks swap.now) }
-    ensures few { store.new.made ≤ store.old.made + 1 }
-{
-    store.law();
-    let attr = Attr {
-        flags: 0,
-        lock: 0,
-        clean: false,
-        shared: false,
-    };
-    store.add_zero(SIZE, attr)
-}
-
-// Brings a segment in, and tells whether it is there.
-fn bring(store: &mut Store, images: &Images, swap: &mut SureSwap, id: SegId) -> bool
-    requires { IsReady store.old images.now (swap_blocks swap.old) }
-    ensures ready { IsReady store.new images.now (swap_blocks swap.new) }
-    ensures made { store.new.made ≡ store.old.made }
-{
-    store.bring(id, &[], images, swap) == Brought::Here
-}
 
 // Writes the first bytes of a segment in memory.
 fn fill(store: &mut Store, images: &Images, swap: &SureSwap, id: SegId, bytes: &[u8])
@@ -81,8 +56,8 @@ fn begin(
     ensures { IsReady store.new images.now (swap_blocks swap.new) }
 {
     for _round in 0..segments {
-        if let Some(id) = add(store, images, swap) {
-            let _ = bring(store, images, swap, id);
+        if let Some(id) = add(store, images, swap, SIZE) {
+            let _ = bring(store, id, &[], images, swap);
             fill(store, images, swap, id, bytes);
             ids.push(id)?;
         }
@@ -104,11 +79,31 @@ fn bring_round(
     let mut done: u64 = 0;
     for round in 0..rounds {
         let id = ids[(round % ids.len() as u64) as usize];
-        if bring(store, images, swap, id) {
+        if bring(store, id, &[], images, swap) == Brought::Here {
             done = done.wrapping_add(1);
         }
     }
     done
+}
+
+// Adds segments and brings them in, one after the other.
+fn swaps_in(
+    store: &mut Store,
+    images: &Images,
+    swap: &mut SureSwap,
+    bytes: &[u8],
+    segments: u32,
+    rounds: u64,
+    ids: &mut Vec<SegId>,
+) -> Result<u64, NoMemory>
+    requires ready { IsReady store.old images.now (swap_blocks swap.old) }
+    requires few { store.old.made ≡ 0 }
+{
+    begin(store, images, swap, ids, segments, bytes)?;
+    if ids.is_empty() {
+        return Ok(0);
+    }
+    Ok(bring_round(store, images, swap, ids, rounds).wrapping_mul(2))
 }
 
 /// Brings segments in so many times, one after the other, where each one drives another one out. Each has so many bytes that
@@ -116,16 +111,14 @@ fn bring_round(
 pub fn swap_many(alloc: Global, segments: u32, filled: usize, rounds: u64) -> Result<u64, NoMemory>
     requires { segments ≤ 65536 }
 {
-    let mut store = Store::make(alloc, MEMORY, BLOCKS, segments)?;
-    let mut swap = SureSwap::new(alloc, BLOCKS)?;
-    let images = Images::new(Vec::new(alloc), Vec::new(alloc));
     let bytes = Vec::from_elem(alloc, 7u8, filled)?;
+    let mut swap = SureSwap::new(alloc, BLOCKS)?;
+    let mut store = Store::make(alloc, MEMORY, BLOCKS, segments)?;
+    let images = Images::new(Vec::new(alloc), Vec::new(alloc));
     let mut ids = Vec::new(alloc);
-    begin(&mut store, &images, &mut swap, &mut ids, segments, &bytes)?;
-    if ids.is_empty() {
-        return Ok(0);
-    }
-    Ok(bring_round(&mut store, &images, &mut swap, &ids, rounds).wrapping_mul(2))
+    swaps_in(
+        &mut store, &images, &mut swap, &bytes, segments, rounds, &mut ids,
+    )
 }
 
 /// Copies so many pieces of this length out of a longer stretch, one after the other, to one place.

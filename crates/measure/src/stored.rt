@@ -1,50 +1,40 @@
 // Steps over a store.
-ghost use Rattle.std.specs.Prelude.{IfOk};
 ghost use Rattle.test_bus_parts.specs.Trials.{IsReady};
 
 use crate::stepping::start;
 use o2_base::NoMemory;
 use o2_desc::Access;
-use o2_place::SegId;
 use std::alloc::Global;
 use test_bus_parts::Bench;
 
-/// Process 1 holds these bytes at its lowest free index.
-fn hold(bench: &mut Bench, bytes: &[u8], access: Access) -> Result<(SegId, u32), NoMemory>
+/// Whether process 1 has got this code, data and stack, which are in memory together.
+fn has_all(bench: &mut Bench, code: &[u8]) -> bool
     requires { IsReady bench.old }
     ensures { IsReady bench.new }
 {
-    match bench.insert(bytes, access.0) {
-        Some(id) => Ok((id, 0)),
-        None => Err(NoMemory),
-    }
+    let zeros = [0u8; 4096];
+    let Some(first) = bench.insert(code, Access::READABLE_CODE.0) else {
+        return false;
+    };
+    let Some(second) = bench.insert(&zeros, Access::WRITABLE_DATA.0) else {
+        return false;
+    };
+    let Some(third) = bench.insert(&zeros, Access::WRITABLE_DATA.0) else {
+        return false;
+    };
+    bench.bring(&[(first, 0), (second, 0), (third, 0)])
 }
 
-/// A store with this code, data and stack, all of which process 1 holds and are in memory.
-fn memory(alloc: Global, code: &[u8]) -> Result<Bench, NoMemory>
-    ensures { IfOk result (λ b. IsReady b) }
-{
+/// So many steps of this code, over one bus or with a bus for each; the answer is how many were done.
+pub fn store_many(alloc: Global, code: &[u8], steps: u64, each: bool) -> Result<u64, NoMemory> {
     let mut bench = Bench::new(alloc, 65_536, 16, 4)?;
-    let first = hold(&mut bench, code, Access::READABLE_CODE)?;
-    let zeros = [0u8; 4096];
-    let second = hold(&mut bench, &zeros, Access::WRITABLE_DATA)?;
-    let third = hold(&mut bench, &zeros, Access::WRITABLE_DATA)?;
-    if !bench.bring(&[first, second, third]) {
+    if !has_all(&mut bench, code) {
         return Err(NoMemory);
     }
-    Ok(bench)
-}
-
-/// So many steps of this code over one bus; the answer is how many were done.
-pub fn store_many(alloc: Global, code: &[u8], steps: u64) -> Result<u64, NoMemory> {
-    let mut bench = memory(alloc, code)?;
     let mut cpu = start();
-    Ok(bench.run(&mut cpu, steps))
-}
-
-/// The same with a bus for each step.
-pub fn store_each(alloc: Global, code: &[u8], steps: u64) -> Result<u64, NoMemory> {
-    let mut bench = memory(alloc, code)?;
-    let mut cpu = start();
-    Ok(bench.run_each(&mut cpu, steps))
+    Ok(if each {
+        bench.run_each(&mut cpu, steps)
+    } else {
+        bench.run(&mut cpu, steps)
+    })
 }

@@ -5,7 +5,8 @@ use std::alloc::Global;
 use std::test::Fail;
 use test_sequences::{process, segment};
 
-/// A service and its arguments in hexadecimal, and the error number.
+/// A service and its arguments in hexadecimal, and the error number. A call that waits answers 0, and has no line: a second request, and a
+/// wait for a semaphore that has an owner.
 static CALLS: &str = "5 0 17 0 0 = 0
 8 27 17 4 = 0
 8 23 17 4 = 5
@@ -51,6 +52,17 @@ D 1F 0 17 C = 2
 7 3F = 5
 7 37 = 0
 10 0 2 17 0 0 2 = 0
+1A 17 4 = 0
+19 17 4 FFFF FFFF = 0
+19 17 4 0 0 = 121
+19 17 4 FFFF FFFF = 0
+1B 17 4 0 0 = 121
+1B 17 4 FFFF FFFF = 0
+19 17 4 0 1 = 87
+1C 17 4 = 0
+1B 17 4 FFFF FFFE = 87
+1A 17 4 = 0
+1B 17 4 FFFF FFFF = 0
 4 1 F 0 3 F 0 = 0";
 
 /// What they tell.
@@ -116,6 +128,15 @@ static REPORT: &str = "1 call DosAllocSeg 0000 0017:0000 0000 = 0 0027
 1 drop 0037 by DosFreeSeg
 1 call DosAllocHuge 0000 0002 0017:0000 0000 0002 = 0 800F
 1 hold 800F by DosAllocHuge
+1 call DosSemClear 0017:0004 = 0
+1 call DosSemRequest 0017:0004 FFFFFFFF = 0
+1 call DosSemRequest 0017:0004 00000000 = 121
+1 call DosSemWait 0017:0004 00000000 = 121
+1 call DosSemRequest 0017:0004 00000001 = 87
+1 call DosSemSet 0017:0004 = 0
+1 call DosSemWait 0017:0004 FFFFFFFE = 87
+1 call DosSemClear 0017:0004 = 0
+1 call DosSemWait 0017:0004 FFFFFFFF = 0
 1 end trap 13 at 000F:0100
 ";
 
@@ -234,7 +255,7 @@ fn calls(
 
 #[test]
 fn calls_answer_and_tell(rt: HostRuntime) -> Result<(), Fail> {
-    assert_eq!(rt; calls(rt.alloc(), CALLS, REPORT, "...", 0)?, (46, true));
+    assert_eq!(rt; calls(rt.alloc(), CALLS, REPORT, "...", 0)?, (57, true));
     Ok(())
 }
 

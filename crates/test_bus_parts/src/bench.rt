@@ -14,7 +14,7 @@ use o2_segbus::{SegBus, attempt};
 use o2_service::{Served, serve};
 use o2_store::Store;
 use std::alloc::Global;
-use test_service_calls::live_need;
+use test_store_calls::live_need;
 
 /// How many segments are ever made.
 const MADE: u64 = 65_536;

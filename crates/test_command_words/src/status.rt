@@ -2,7 +2,7 @@
 use o2_base::{Bytes, Key, MachineFault, ModuleFault, NoMemory, Which};
 use o2_cli::{Status, number, text};
 use std::alloc::Global;
-use std::test::Fail;
+use test_fixtures::{Wrong, want, want_line};
 
 /// The line of each status, by its number.
 static LINES: &str = "
@@ -51,13 +51,12 @@ fn is_told(alloc: Global, wanted: usize, line: &str) -> Result<bool, NoMemory> {
     Ok(number(&status) as usize == wanted && told.as_slice() == whole.as_bytes())
 }
 
-#[test]
-fn statuses(rt: HostRuntime) -> Result<(), Fail> {
+pub fn statuses(alloc: Global) -> Result<(), Wrong> {
     let mut count = 0u32;
     for (wanted, line) in LINES.lines().enumerate() {
-        assert!(rt; is_told(rt.alloc(), wanted, line)?, "{line}");
+        want_line(is_told(alloc, wanted, line)?, line)?;
         count = count.saturating_add(1);
     }
-    assert!(rt; count == 12);
+    want(count == 12, 1)?;
     Ok(())
 }

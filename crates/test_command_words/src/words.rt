@@ -2,7 +2,7 @@
 use o2_base::NoMemory;
 use o2_words::{Command, Verb, command, is_command};
 use std::alloc::Global;
-use std::test::Fail;
+use test_fixtures::{Wrong, want, want_line};
 
 /// Words that are a command, its verb and its operand.
 static COMMANDS: &str =
@@ -46,42 +46,44 @@ fn is_of(found: &Command<'_>, row: &str) -> bool {
     }
 }
 
-#[test]
-fn words_of_a_command(rt: HostRuntime) -> Result<(), Fail> {
+pub fn words_of_a_command(alloc: Global) -> Result<(), Wrong> {
     let mut count = 0u32;
     for row in COMMANDS.split('|') {
-        let list = owned(rt.alloc(), row)?;
-        assert!(rt; is_command(list.as_slice()), "of {row:?}");
-        let found = command(rt.alloc(), list.as_slice())?;
-        assert!(rt; is_of(&found, row), "of {row:?}");
+        let list = owned(alloc, row)?;
+        if !is_command(list.as_slice()) {
+            return want_line(false, row);
+        }
+        let found = command(alloc, list.as_slice())?;
+        want_line(is_of(&found, row), row)?;
         count = count.saturating_add(1);
     }
-    assert!(rt; count == 23);
+    want(count == 23, 2)?;
     Ok(())
 }
 
-#[test]
-fn other_words(rt: HostRuntime) -> Result<(), Fail> {
+pub fn other_words(alloc: Global) -> Result<(), Wrong> {
     let mut count = 0u32;
     for row in OTHERS.split('|') {
-        let list = owned(rt.alloc(), row)?;
-        assert!(rt; !is_command(list.as_slice()), "of {row:?}");
+        let list = owned(alloc, row)?;
+        want_line(!is_command(list.as_slice()), row)?;
         count = count.saturating_add(1);
     }
-    assert!(rt; count == 52);
+    want(count == 52, 1)?;
     Ok(())
 }
 
-/// Whichever allocation fails, the answer is the command or want of memory. `rt try --test --fail-alloc N`
+/// Whichever allocation fails, the answer is the command or want of memory. `rt try --fail-alloc N`
 /// makes the Nth fail.
-#[test]
-fn want_of_memory_alone(rt: HostRuntime) {
-    let Ok(list) = owned(rt.alloc(), "run;machine.toml") else {
-        return;
+pub fn want_of_memory_alone(alloc: Global) -> Result<(), Wrong> {
+    let Ok(list) = owned(alloc, "run;machine.toml") else {
+        return Err(Wrong::NoMemory);
     };
     let words = list.as_slice();
-    assert!(rt; is_command(words));
-    if let Ok(found) = command(rt.alloc(), words) {
-        assert!(rt; is_of(&found, "run;machine.toml"));
+    if !is_command(words) {
+        return want(false, 0);
     }
+    if let Ok(found) = command(alloc, words) {
+        want(is_of(&found, "run;machine.toml"), 1)?;
+    }
+    Ok(())
 }

@@ -1,202 +1,233 @@
-// Core images, with what they tell or the place that they are refused for, by the rules of the format.
-use o2_base::{Fail, NoMemory};
-use o2_dump::Core;
-use std::alloc::{AllocError, Global};
-use std::test;
+// Images that are written of a small memory, over sinks and devices of which a call fails.
+ghost use Rattle.std.specs.Prelude.{◌≡◌, ◌≤◌, length};
+ghost use Rattle.test_bus_parts.specs.Trials.{IsReady};
+ghost use Rattle.o2_outer.specs.Devices.{mem_blocks};
+ghost use Rattle.o2_regions.specs.Maps.{IsProcess};
+ghost use Rattle.o2_segbus.specs.Settled.{IsSettled};
+ghost use Rattle.o2_swapmap.specs.Piles.{all_of};
 
-/// An image: a key and a text a line. In a text `l`, `w` and `b` stand before a number of four bytes, of two and of one, `t`
-/// before letters, `z` before how many zeros there are, and `a` before how many letters a.
-static MACHINE: &str = "mark|tOS2CORE1
-head|l64 l3 l4 l2 l7 l0 l5 l0
-zeros|l10 l0 b1 b2 b0 b0
-image|l600 l512 b0 b0 b1 b1 w1 w2
-memory|l20 l20 b0 b0 b0 b2 l16
-swap|l600 l513 b0 b0 b0 b3 l2 l2 a512 l0 a512
-bytes|z16 tabcdefghijklmnopqrst z28
-first|w1 w0 w0 z28 l2
-code|w1 w19 w16 b0 b250 w0 l2 l1
-data|w5 w9 w0 b0 b114 w0 l0 l3
-second|w3 w2 w13 z28 l0
-end|tEND!";
+use o2_base::NoMemory;
+use o2_dumping::{Parts, Wrote, write};
+use o2_isa::Cpu;
+use o2_outer::{MemSink, MemSwap, Sink, SwapDevice};
+use o2_regions::Regions;
+use o2_store::Store;
+use std::alloc::Global;
+use test_bus_parts::Bench;
 
-/// A text in place of the line of a key, and how the image is judged. The entries of the segments begin at 40, 52, 68 and 84,
-/// the memory at 1132, the processes at 1196 and 1270, the entries of the first one at 1234 and 1252, and the end at 1308.
-static CASES: &str = "none:  => ok
-mark: tOS2CORE2 => NotCore
-mark: tOS2 => NotCore
-zeros: l0 l0 b1 b2 b0 b0 => BadEntry(40)
-zeros: l65537 l0 b0 b0 b0 b0 => BadEntry(40)
-zeros: l65536 l0 b0 b0 b0 b0 => ok
-zeros: l10 l1 b0 b0 b0 b0 => BadEntry(40)
-zeros: l10 l0 b255 b255 b1 b0 => ok
-zeros: l10 l0 b1 b2 b2 b0 => BadEntry(40)
-zeros: l10 l0 b1 b2 b0 b4 => BadEntry(40)
-image: l600 l601 b0 b0 b1 b1 w1 w2 => BadEntry(52)
-image: l600 l600 b0 b0 b1 b1 w0 w2 => ok
-image: l16 l16 b0 b0 b0 b2 l0 => ok
-image: l16 l16 b0 b0 b0 b2 l48 => ok
-image: l16 l16 b0 b0 b0 b2 l1 => BadEntry(68)
-image: l16 l16 b0 b0 b0 b2 l47 => BadEntry(68)
-image: l1 l1 b0 b0 b0 b2 l1 => BadEntry(68)
-image: l16 l16 b0 b0 b0 b2 l49 => BadEntry(52)
-image: l16 l15 b0 b0 b0 b2 l0 => BadEntry(52)
-image: l512 l512 b0 b0 b0 b3 l1 l1 z512 => ok
-image: l512 l512 b0 b0 b0 b3 l1 l2 z512 => BadEntry(600)
-image: l512 l512 b0 b0 b0 b3 l1 l3 z512 => BadEntry(52)
-image: l512 l512 b0 b0 b0 b3 l2 l1 z512 => BadEntry(52)
-swap: l600 l513 b0 b0 b0 b3 l2 l2 z512 l2 z512 => BadEntry(84)
-swap: l600 l512 b0 b0 b0 b3 l2 l2 z512 l0 z512 => BadEntry(84)
-swap: l600 l513 b0 b0 b0 b3 l1 l2 z512 => BadEntry(84)
-first: w1 w3 w0 z28 l2 => BadEntry(1196)
-first: w3 w0 w0 z28 l2 => BadEntry(1270)
-first: w0 w0 w9 z28 l2 => ok
-code: w5 w19 w16 b0 b250 w0 l2 l1 => BadEntry(1252)
-code: w1 w19 w16 b0 b250 w1 l2 l1 => BadEntry(1234)
-code: w1 w19 w16 b0 b250 w256 l2 l1 => BadEntry(1234)
-code: w1 w19 w16 b0 b250 w0 l4 l1 => BadEntry(1234)
-code: w1 w19 w16 b0 b250 w0 l2 l0 => BadEntry(1234)
-end: tEND? => BadEntry(1308)
-end: tEND! b0 => TooLong(1312)
-end: tEN => Truncated(1310)
-hello: tEND! => ok
-hello: tEND? => BadEntry(4174)
-hello: tEND! b0 => TooLong(4178)";
+/// Data that can be read and written, and was accessed.
+const DATA: u8 = 0xF3;
 
-/// The image of a machine of 4,096 bytes without swapping, whose one process has ended after ten steps, but for its end.
-static HELLO: &str = "tOS2CORE1 l4096 l0 l0 l1 l10 l0 l14 l0 z4096 w1 w1 w0 z28 l0";
+const CPU: Cpu = Cpu {
+    ax: 0x0102,
+    cx: 0x0304,
+    dx: 0x0506,
+    bx: 0x0708,
+    sp: 0x090A,
+    bp: 0x0B0C,
+    si: 0x0D0E,
+    di: 0x0F10,
+    ip: 0x1112,
+    flags: 0x1314,
+    cs: 0x1516,
+    ds: 0x1718,
+    es: 0x191A,
+    ss: 0x1B1C,
+};
 
-/// Adds what a word of a text stands for.
-fn write_word(file: &mut Vec<u8>, word: &str) -> Result<(), NoMemory> {
-    let Some((kind, rest)) = word.split_at_checked(1) else {
-        return Ok(());
+/// Writes the image of a machine with so many blocks, whose process has ended with code 7 after ten steps and thirteen bytes.
+fn put<C: Sink, S: SwapDevice>(
+    store: &Store,
+    regions: &Regions,
+    blocks: u32,
+    console: &mut C,
+    swap: &mut S,
+) -> Wrote
+    requires process { IsProcess regions.now 1 }
+    requires settled { IsSettled store.now regions.now }
+    requires device { all_of store.now.swap ≤ S.blocks swap.old }
+    ensures { S.blocks swap.new ≡ S.blocks swap.old }
+{
+    let processes = [(CPU, 1, 7)];
+    let parts = Parts {
+        store,
+        regions,
+        processes: &processes,
+        blocks,
+        steps: 10,
+        console: 13,
     };
-    let number = rest.parse::<u32>().unwrap_or(0);
-    let [first, second, third, fourth] = number.to_le_bytes();
-    match kind {
-        "l" => file.extend_from_slice(&[first, second, third, fourth])?,
-        "w" => file.extend_from_slice(&[first, second])?,
-        "b" => file.push(first)?,
-        "t" => file.extend_from_slice(rest.as_bytes())?,
-        _ => {
-            for _ in 0..number {
-                file.push(if kind == "a" { b'a' } else { 0 })?;
-            }
+    write(&parts, console, swap)
+}
+
+/// A sink with room for any image here, of which a call fails behind three bytes, or none.
+pub fn sink(alloc: Global, failing: u64) -> Result<MemSink, NoMemory> {
+    let mut fails = Vec::new(alloc);
+    if failing > 0 {
+        fails.push((failing, 3))?;
+    }
+    MemSink::new(alloc, 65_536, fails)
+}
+
+/// What is written of a bench over its own device.
+fn written(bench: &mut Bench, console: &mut MemSink) -> Wrote
+    requires { IsReady bench.old }
+    ensures { IsReady bench.new }
+{
+    let blocks = bench.swap.count();
+    put(
+        &bench.store,
+        &bench.regions,
+        blocks,
+        console,
+        &mut bench.swap,
+    )
+}
+
+/// Makes three segments of 2,000 bytes one after the other, and one of zeros that is never in memory; whether there was room.
+fn fill(bench: &mut Bench) -> bool
+    requires { IsReady bench.old }
+    ensures { IsReady bench.new }
+{
+    for byte in [b'a', b'b', b'c'] {
+        if bench.insert(&[byte; 2_000], DATA).is_none() {
+            return false;
         }
     }
-    Ok(())
-}
-
-/// Adds what a text stands for.
-fn write_text(file: &mut Vec<u8>, text: &str) -> Result<(), NoMemory> {
-    for word in text.split(' ') {
-        write_word(file, word)?;
-    }
-    Ok(())
-}
-
-/// Adds a line, with this text in place of that of the key.
-fn write_line(file: &mut Vec<u8>, line: &str, key: &str, text: &str) -> Result<(), NoMemory> {
-    let Some((name, usual)) = line.split_once('|') else {
-        return Ok(());
-    };
-    if key == name {
-        return write_text(file, text);
-    }
-    write_text(file, usual)
-}
-
-/// Adds the image, with this text in place of the line of a key; with the key `hello` the text is the end of HELLO.
-fn write_image(file: &mut Vec<u8>, key: &str, text: &str) -> Result<(), NoMemory> {
-    if key == "hello" {
-        write_text(file, HELLO)?;
-        return write_text(file, text);
-    }
-    for line in MACHINE.lines() {
-        write_line(file, line, key, text)?;
-    }
-    Ok(())
-}
-
-/// What a file is refused for, or `ok`.
-fn judged(alloc: Global, file: &[u8]) -> Result<String, AllocError> {
-    match Core::read(alloc, file) {
-        Ok(_) => String::from_str(alloc, "ok"),
-        Err(Fail::NoMemory) => String::from_str(alloc, "no memory"),
-        Err(Fail::Bad(fault)) => format!(in alloc; "{fault:?}"),
+    match bench.add(300) {
+        Some(id) => bench.hold(id, DATA).is_some(),
+        None => false,
     }
 }
 
-/// Whether an image is judged so.
-fn is_judged(alloc: Global, key: &str, text: &str, answer: &str) -> Result<bool, AllocError> {
-    let mut file = Vec::new(alloc);
-    write_image(&mut file, key, text).map_err(|_| AllocError)?;
-    let told = judged(alloc, file.as_slice())?;
-    Ok(told.as_str() == answer)
+/// Writes the image of a memory of 4,096 bytes without segments and without blocks.
+pub fn write_empty(alloc: Global, console: &mut MemSink) -> Result<Wrote, NoMemory> {
+    let mut bench = Bench::new(alloc, 4_096, 0, 8)?;
+    Ok(written(&mut bench, console))
 }
 
-/// The key, the text and the answer of a line.
-fn parts(line: &str) -> Option<(&str, &str, &str)> {
-    let (key, rest) = line.split_once(": ")?;
-    let (text, answer) = rest.split_once(" => ")?;
-    Some((key, text, answer))
+/// Whether the console failed, and took a front of what is wanted.
+fn is_cut(console: &MemSink, wrote: Wrote, wanted: &[u8]) -> bool {
+    wrote == Wrote::SinkFault && wanted.starts_with(console.taken())
 }
 
-#[test]
-fn faults_of_images(rt: HostRuntime) -> Result<(), test::Fail> {
+/// Whether this put of the image is cut where it fails; none where it is neither cut nor the whole image.
+fn is_cut_at(
+    alloc: Global,
+    bench: &mut Bench,
+    call: u64,
+    wanted: &[u8],
+) -> Result<Option<bool>, NoMemory>
+    requires { IsReady bench.old }
+    ensures { IsReady bench.new }
+{
+    let mut console = sink(alloc, call)?;
+    let wrote = written(bench, &mut console);
+    if is_cut(&console, wrote, wanted) {
+        Ok(Some(true))
+    } else if wrote == Wrote::Done && console.taken() == wanted {
+        Ok(Some(false))
+    } else {
+        Ok(None)
+    }
+}
+
+/// How many of 64 puts cut the image where they fail, where the others leave it whole; none where one does neither.
+fn count_cut(alloc: Global, bench: &mut Bench, wanted: &[u8]) -> Result<Option<u32>, NoMemory>
+    requires { IsReady bench.old }
+    ensures { IsReady bench.new }
+{
     let mut count = 0u32;
-    for line in CASES.lines() {
-        if let Some((key, text, answer)) = parts(line) {
-            assert!(rt; is_judged(rt.alloc(), key, text, answer)?, "of {line}");
-            count = count.saturating_add(1);
+    for call in 1..=64u64 {
+        match is_cut_at(alloc, bench, call, wanted)? {
+            Some(true) => count = count.saturating_add(1),
+            Some(false) => {}
+            None => return Ok(None),
         }
     }
-    assert!(rt; count == 40);
-    Ok(())
+    Ok(Some(count))
 }
 
-/// Whether a front of an image is refused for its length.
-fn is_cut(alloc: Global, front: &[u8]) -> Result<bool, AllocError> {
-    let told = judged(alloc, front)?;
-    let wanted = format!(in alloc; "Truncated({})", front.len())?;
-    Ok(told.as_str() == wanted.as_str())
+/// How many puts of the image of the filled memory are cut: the head; four segments, of which one has four blocks of two puts; the memory; the
+/// process, and what it holds; the end mark.
+const PUTS: u32 = 1 + 4 + 8 + 1 + 1 + 4 + 1;
+
+/// What is written of a bench over another device, of which this read fails.
+fn written_over(bench: &Bench, device: &mut MemSwap, console: &mut MemSink) -> Wrote
+    requires ready { IsReady bench.now }
+    requires device { all_of bench.now.store.swap ≤ length (mem_blocks device.old) }
+{
+    put(&bench.store, &bench.regions, 16, console, device)
 }
 
-#[test]
-fn each_front_is_cut(rt: HostRuntime) -> Result<(), test::Fail> {
-    let mut file = Vec::new(rt.alloc());
-    write_image(&mut file, "none", "").map_err(|_| AllocError)?;
-    assert!(rt; file.len() == 1312);
-    for length in 0..file.len() {
-        assert!(rt; is_cut(rt.alloc(), &file[..length])?, "of {length}");
+/// What is written of a bench over a device of so many blocks, of which this read fails.
+fn written_without(alloc: Global, bench: &Bench, blocks: u32, call: u64) -> Result<Wrote, NoMemory>
+    requires ready { IsReady bench.now }
+    requires device { all_of bench.now.store.swap ≤ blocks }
+    requires small { blocks ≤ 65536 }
+{
+    let mut console = sink(alloc, 0)?;
+    let mut device = MemSwap::new(alloc, blocks, vec![in alloc; call]?)?;
+    Ok(written_over(bench, &mut device, &mut console))
+}
+
+/// Whether each of four reads may fail, and there is no fifth.
+fn each_is_read(alloc: Global, bench: &Bench) -> Result<bool, NoMemory>
+    requires { IsReady bench.now }
+{
+    let blocks = bench.swap.count();
+    if blocks != 16 {
+        return Ok(false);
     }
-    Ok(())
+    for call in 1..=5u64 {
+        let wanted = if call < 5 {
+            Wrote::SwapFault
+        } else {
+            Wrote::Done
+        };
+        if written_without(alloc, bench, blocks, call)? != wanted {
+            return Ok(false);
+        }
+    }
+    Ok(true)
 }
 
-/// The bytes of the segments of the image, by number.
-static BYTES: &str = "z10
-z600
-tabcdefghijklmnopqrst
-a513 z87
-none";
+/// What is tried of the filled memory, whose image is written before.
+#[derive(Clone, Copy)]
+pub enum Trial {
+    /// Nothing more.
+    Image,
+    /// Each put of the image fails.
+    Puts,
+    /// Each read of a block fails.
+    Reads,
+}
 
-/// Whether a segment of the image has the bytes that a text stands for. The text `none` stands for no segment.
-fn has_bytes(alloc: Global, core: &Core, number: u32, text: &str) -> Result<bool, NoMemory> {
-    let mut wanted = Vec::new(alloc);
-    write_text(&mut wanted, text)?;
-    match core.segment(alloc, number)? {
-        Some(bytes) => Ok(bytes.as_slice() == wanted.as_slice()),
-        None => Ok(text == "none"),
+/// Whether the image of a bench is whole, and is cut at each of its puts, or fails at each read.
+fn passes(
+    alloc: Global,
+    bench: &mut Bench,
+    console: &mut MemSink,
+    trial: Trial,
+) -> Result<bool, NoMemory>
+    requires { IsReady bench.old }
+{
+    if written(bench, console) != Wrote::Done {
+        return Ok(false);
+    }
+    match trial {
+        Trial::Image => Ok(true),
+        Trial::Puts => Ok(count_cut(alloc, bench, console.taken())? == Some(PUTS)),
+        Trial::Reads => each_is_read(alloc, bench),
     }
 }
 
-#[test]
-fn bytes_of_segments(rt: HostRuntime) -> Result<(), test::Fail> {
-    let mut file = Vec::new(rt.alloc());
-    write_image(&mut file, "none", "").map_err(|_| AllocError)?;
-    let core = Core::read(rt.alloc(), file.as_slice()).map_err(|_| "refused")?;
-    for (line, text) in BYTES.lines().enumerate() {
-        let right = has_bytes(rt.alloc(), &core, line as u32, text).map_err(|_| AllocError)?;
-        assert!(rt; right, "of {text}");
+/// Whether this is so of a memory of 4,096 bytes with sixteen blocks, in which three segments of 2,000 bytes are made, `a`, `b` and `c`, so
+/// that one has to leave, and one of 300 zeros.
+pub fn filled_passes(alloc: Global, console: &mut MemSink, trial: Trial) -> Result<bool, NoMemory> {
+    let mut bench = Bench::new(alloc, 4_096, 16, 8)?;
+    if !fill(&mut bench) {
+        return Ok(false);
     }
-    Ok(())
+    passes(alloc, &mut bench, console, trial)
 }

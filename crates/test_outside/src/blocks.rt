@@ -1,4 +1,5 @@
 // Blocks of a swap device whose bytes are all the same.
+ghost use Rattle.std.specs.Prelude.{◌≡◌, ◌<◌, true};
 
 use o2_outer::{Dev, SwapDevice};
 
@@ -20,13 +21,21 @@ pub fn write<S: SwapDevice>(swap: &mut S, block: u32, byte: u8) -> Dev {
     swap.write(block, &[byte; 512])
 }
 
+/// Whether a device has a block and knows what it holds.
+pub fn knows<S: SwapDevice>(swap: &S, block: u32) -> bool
+    ensures block { result ≡ true → block < S.blocks swap.now }
+    ensures known { result ≡ true → S.known swap.now block ≡ true }
+{
+    block < swap.count() && swap.knows(block)
+}
+
 /// Whether a read of a block gives this byte everywhere.
 pub fn gives<S: SwapDevice>(swap: &mut S, block: u32, byte: u8) -> bool {
     let mut bytes = [!byte; 512];
-    block < swap.count() && swap.read(block, &mut bytes) == Dev::Done && are_all(&bytes, byte)
+    knows(swap, block) && swap.read(block, &mut bytes) == Dev::Done && are_all(&bytes, byte)
 }
 
 /// Whether a read of a block is a fault.
 pub fn is_lost<S: SwapDevice>(swap: &mut S, block: u32) -> bool {
-    block < swap.count() && swap.read(block, &mut [0u8; 512]) == Dev::Failed
+    knows(swap, block) && swap.read(block, &mut [0u8; 512]) == Dev::Failed
 }

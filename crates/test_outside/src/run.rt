@@ -6,7 +6,7 @@ ghost use Rattle.o2_run.specs.Turn.{Caused};
 ghost use Rattle.o2_run.specs.Faults.{turn_of};
 
 use o2_base::{Bytes, NoMemory};
-use o2_outer::{Dev, MemSink, MemSource, Sink, Source, SwapDevice, Took};
+use o2_outer::{Dev, History, MemSink, MemSource, Sink, Source, SwapDevice, Took, read_block};
 use o2_run::{Fault, Steps, Stop, Turn, put_stop, run};
 use std::alloc::Global;
 use test_fixtures::{Wrong, want, want_line};
@@ -15,10 +15,13 @@ use test_fixtures::{Wrong, want, want_line};
 #[derive(Drop)]
 struct Broken {
     faults: u64,
+    // which blocks were asked for, for proofs
+    asked: History<u32, u32, u32>,
 }
 
 impl SwapDevice for Broken {
     ghost use Rattle.std.specs.Prelude.{true, []};
+    ghost use Rattle.o2_outer.specs.Asked.{asked_for};
 
     ghost blocks = { λ _. 1 };
 
@@ -26,13 +29,22 @@ impl SwapDevice for Broken {
 
     ghost block = { λ _ _. [] };
 
+    ghost known = { λ _ _. true };
+
+    ghost asked = { λ s. asked_for s.asked.items };
+
     ghost faults = { λ s. s.faults };
 
     fn count(&self) -> u32 {
         1
     }
 
-    fn read(&mut self, _i: u32, _into: &mut [u8; 512]) -> Dev {
+    fn knows(&self, _i: u32) -> bool {
+        true
+    }
+
+    fn read(&mut self, i: u32, _into: &mut [u8; 512]) -> Dev {
+        self.asked = self.asked.and(&i, &i, &i);
         self.faults = self.faults.saturating_add(1);
         Dev::Failed
     }
@@ -73,7 +85,7 @@ fn found<I: Source, S: SwapDevice>(why: Stop, input: &mut I, swap: &mut S) -> St
             if swap.count() == 0 {
                 return Stop::NoRoom;
             }
-            match swap.read(0, &mut block) {
+            match read_block(0, &mut block, swap) {
                 Dev::Failed => Stop::SwapFault,
                 Dev::Done => Stop::NoRoom,
             }
@@ -144,7 +156,10 @@ fn are_stopped(
     report: &mut MemSink,
     why: Stop,
 ) -> bool {
-    let mut swap = Broken { faults: 0 };
+    let mut swap = Broken {
+        faults: 0,
+        asked: History::new(),
+    };
     for _run in 0..2 {
         if run(machine, input, console, report, &mut swap) != Err(Fault::Stopped(why)) {
             return false;

@@ -49,6 +49,17 @@ const TAKE_OF_HEAP: u16 = 21;
 
 const FREE_OF_HEAP: u16 = 22;
 
+const REQUEST: u16 = 25;
+
+const CLEAR: u16 = 26;
+
+const WAIT: u16 = 27;
+
+const SET: u16 = 28;
+
+/// Both words of a timeout that never ends.
+const FOREVER: u16 = 0xFFFF;
+
 /// How long a code may be before its last calls.
 const LONG: usize = 0x5000;
 
@@ -319,6 +330,35 @@ impl Sequence {
         self.call(alloc, process, FREE_OF_HEAP, &[selector, offset, size])
     }
 
+    /// The timeout of a call on a semaphore, which doesn't wait.
+    fn timeout(&mut self, process: u16) -> (Word, Word) {
+        if !self.dice.once_in(6) {
+            return (number(0), number(0));
+        }
+        let high = self.any_word(process);
+        let low = self.any_word(process);
+        if high.value == FOREVER && low.value == FOREVER {
+            return (high, number(0));
+        }
+        (high, low)
+    }
+
+    fn want_semaphore(
+        &mut self,
+        alloc: Global,
+        process: u16,
+        service: u16,
+    ) -> Result<(), NoMemory> {
+        let to = self.pointer(process, true, 4);
+        let (high, low) = self.timeout(process);
+        self.call(
+            alloc,
+            process,
+            service,
+            &[to.selector, to.offset, high, low],
+        )
+    }
+
     /// A call on a segment, by a number below 80.
     fn act_on_segment(&mut self, alloc: Global, process: u16, k: u16) -> Result<(), NoMemory> {
         match k {
@@ -356,7 +396,7 @@ impl Sequence {
         }
     }
 
-    /// A call on a heap, by a number from 152 on.
+    /// A call on a heap, by a number from 152 to 175.
     fn act_on_heap(&mut self, alloc: Global, process: u16, k: u16) -> Result<(), NoMemory> {
         match k {
             152..=157 => self.set_heap(alloc, process),
@@ -365,16 +405,28 @@ impl Sequence {
         }
     }
 
+    /// A call on a semaphore, by a number from 176 on.
+    fn act_on_semaphore(&mut self, alloc: Global, process: u16, k: u16) -> Result<(), NoMemory> {
+        match k {
+            176..=181 => self.want_semaphore(alloc, process, REQUEST),
+            182..=184 => self.tells(alloc, process, CLEAR, 4),
+            185..=187 => self.want_semaphore(alloc, process, WAIT),
+            _ => self.tells(alloc, process, SET, 4),
+        }
+    }
+
     fn act(&mut self, alloc: Global, process: u16) -> Result<(), NoMemory> {
-        let k = self.dice.roll(176);
+        let k = self.dice.roll(190);
         if k < 80 {
             self.act_on_segment(alloc, process, k)
         } else if k < 115 {
             self.act_with_others(alloc, process, k)
         } else if k < 152 {
             self.act_on_more(alloc, process, k)
-        } else {
+        } else if k < 176 {
             self.act_on_heap(alloc, process, k)
+        } else {
+            self.act_on_semaphore(alloc, process, k)
         }
     }
 

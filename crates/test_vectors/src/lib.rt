@@ -1,5 +1,7 @@
-//! Rows of `o2_vectors`: vectors of each opcode, read back from their text and replayed.
+//! Rows of `o2_vectors`: vectors of each opcode, read back from their text and replayed by the processor.
 #![tactic(auto)]
 
+#[cfg(test)]
+mod replay;
 #[cfg(test)]
 mod vectors;

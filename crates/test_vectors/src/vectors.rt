@@ -1,12 +1,12 @@
 // Vectors, read back from their text and replayed.
 ghost use Rattle.std.specs.Prelude.{◌≤◌, length};
 
+use crate::replay::replays;
 use o2_vectors::{Wanted, made, opening};
 use rand_pcg::Pcg32;
 use serde_json::Value;
 use std::alloc::Global;
 use std::test::Fail;
-use test_vector_replay::replays;
 
 /// Whether the vector in a text replays.
 fn is_right(alloc: Global, text: &str) -> Result<bool, Fail> {

@@ -1,5 +1,0 @@
-use Rattle.test_bus_parts.specs.Trials.{IsReady}
-use Rattle.test_image_fixtures.proofs.images.count_cut.Given as goal
-
-abbrev pub invariant-loop-call : goal.invariant-loop-call
-invariant-loop-call l = IsReady l.bench

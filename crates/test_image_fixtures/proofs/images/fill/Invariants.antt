@@ -1,5 +1,0 @@
-use Rattle.test_bus_parts.specs.Trials.{IsReady}
-use Rattle.test_image_fixtures.proofs.images.fill.Given as goal
-
-abbrev pub invariant-loop-byte : goal.invariant-loop-byte
-invariant-loop-byte l = IsReady l.bench

@@ -1,5 +1,0 @@
-use Rattle.o2_service.proofs.Among.{LiveTo}
-use Rattle.test_service_calls.proofs.calls.live_need.Given as goal
-
-abbrev pub invariant-loop-k : goal.invariant-loop-k
-invariant-loop-k l = LiveTo l.store l.pairs l.k

@@ -1,5 +1,0 @@
-use Rattle.o2_store.specs.Trials.{IsReady}
-use Rattle.test_store_sharing.proofs.sharing.first_wrong.Given as goal
-
-abbrev pub invariant-loop-line : goal.invariant-loop-line
-invariant-loop-line g l = IsReady l.store l.images (g.S.SwapDevice.blocks l.swap)
