@@ -57,7 +57,7 @@ service_by_ordinal ordinal = option_map (λ i. i + 1) (position (λ s. s.ordinal
 
 -- the services that the machine has: an import of another is refused, and its gate names nothing
 abbrev pub built : List ℕ
-built = 1 ∷ 2 ∷ 3 ∷ 4 ∷ 5 ∷ 6 ∷ 7 ∷ 8 ∷ 9 ∷ 10 ∷ 11 ∷ 12 ∷ 13 ∷ 14 ∷ 15 ∷ 16 ∷ 17 ∷ 18 ∷ 19 ∷ 20 ∷ 21 ∷ 22 ∷ []
+built = 1 ∷ 2 ∷ 3 ∷ 4 ∷ 5 ∷ 6 ∷ 7 ∷ 8 ∷ 9 ∷ 10 ∷ 11 ∷ 12 ∷ 13 ∷ 14 ∷ 15 ∷ 16 ∷ 17 ∷ 18 ∷ 19 ∷ 20 ∷ 21 ∷ 22 ∷ 25 ∷ 26 ∷ 27 ∷ 28 ∷ []
 
 abbrev pub is_built : ℕ → Bool
 is_built number = list_any (λ s. s == number) built

@@ -96,6 +96,10 @@ pub fn is_built(number: u16) -> bool
         || number == 20
         || number == 21
         || number == 22
+        || number == 25
+        || number == 26
+        || number == 27
+        || number == 28
 }
 
 /// The selector of a service's call gate.

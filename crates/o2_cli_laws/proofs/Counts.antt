@@ -3,13 +3,10 @@ use Rattle.std.proofs.Common.{◌≡◌, refl, sym, ◌∙◌, ap, ℕ, zero, su
 use Rattle.std.specs.Prelude.{Option, Some, None, Result, Ok, Err, fold, nat_lt, slice_get}
 use Rattle.o2_base.specs.declared.faults.ModuleFault.{ModuleFault}
 use Rattle.o2_base.specs.declared.faults.ModuleFault.TheVariants.{NoSegment}
-use Rattle.o2_conf.specs.declared.process.Process.{Process as Setting}
 use Rattle.o2_conf.specs.declared.script.Word.{Word}
-use Rattle.o2_dynlink.specs.Outcome.{LinkedParts}
 use Rattle.o2_world.specs.World.{Process, World}
 use Rattle.o2_world.specs.World.{Setting as RunSetting}
 use Rattle.o2_world.specs.Starts.{Built, Holding, Start, all_started, holdings, holds_as, name_in, next_started, nothing_built, opening_of, start_check, started_as, where_checked, where_started, with_holding, with_holdings, with_started, within_names}
-use Rattle.o2_load.specs.Loads.{starts_of}
 
 one_more : (xs : List Process) (x : Process) → length (xs ++ x ∷ []) ≡ length xs + 1
 one_more [] x = omega arith
@@ -87,7 +84,3 @@ pub start_at : (starts : List Start) (k : ℕ) → k < length starts → (start 
 start_at [] k low = absurd (omega (arith, low))
 start_at (s ∷ starts) zero low = (s, refl)
 start_at (s ∷ starts) (suc k) low = start_at starts k (omega (arith, low))
-
-pub starts_count : (l : LinkedParts) (pid : ℕ) (ps : List Setting) → length (starts_of l pid ps) ≡ length ps
-starts_count l pid [] = refl
-starts_count l pid (p ∷ ps) = ap suc (starts_count l (pid + 1) ps)

@@ -132,9 +132,6 @@ module _ (m n : Maps) (pid i : ℕ) (was : Held) (k : ℕ) (kept : AreKept n) (p
       at q false e = refl
       at q true e = length_left (held_at n pid i) (table_of n pid) i ∙ ap (λ (a : ℕ). length (table_of n a)) (let one : q ≡ pid = grind arith in sym one)
 
-pub first_drops : (m : Maps) (pid i : ℕ) (was : Held) → AreKept m → held_at m pid i ≡ Some was → Drops m m pid i was 0
-first_drops m pid i was kept e = no_drops m pid i was (kept.counted pid i was e) e
-
 pub all_drops : (m n : Maps) (pid i : ℕ) (was : Held) (k : ℕ) → k ≡ was.holds → Drops m n pid i was k → Empties m n pid i
 all_drops m n pid i was k e d =
     let last : (was.holds - k == 0) ≡ true = (let x : was.holds - k ≡ 0 = omega (arith, e) in eq-eqb (was.holds - k) 0 x) in

@@ -34,15 +34,6 @@ pub record FreesBelow (l m : Maps) (pid from : ℕ) : Type 0 where
   pub fewer : (j : ℕ) → IsIndex l Shared j → is_reserved l Shared j ≡ false → is_reserved m Shared j ≡ false
   pub other : (j : ℕ) → IsIndex l Shared j → (IsAloneLeft l m pid j → ⊥) → (IsRunLeft l m pid j → ⊥) → is_reserved m Shared j ≡ is_reserved l Shared j
 
-pub frees_none : (m : Maps) (pid : ℕ) → FreesBelow m m pid 0
-frees_none m pid = record {
-  own = λ q i x. refl;
-  alone = λ j low x a. absurd (omega (arith, low));
-  run = λ runs i h low. absurd (omega (arith, low));
-  fewer = λ j x e. e;
-  other = λ j x a b. refl;
-}
-
 -- a stretch ends in its region
 region_most : (pid f : ℕ) → end_of (region_of pid f) ≤ 8192
 region_most pid f = elim (cases_lt f 4096) [

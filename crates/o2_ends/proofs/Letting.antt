@@ -9,7 +9,7 @@ use Rattle.o2_entries.specs.Tables.{slot_at}
 use Rattle.o2_place.specs.declared.seg_id.SegId.{SegId}
 use Rattle.o2_regions.specs.declared.held.Held.{Held}
 use Rattle.o2_regions.specs.Maps.{Maps, held_at, table_of}
-use Rattle.o2_segbus.specs.Settled.{IsSettled, IsSettledAt, descriptor_at}
+use Rattle.o2_segbus.specs.Settled.{descriptor_at}
 use Rattle.o2_service.specs.Told.{IsHeldWell}
 use Rattle.o2_store.specs.Shelf.{Removes, Shelf, aged, entry_of, entry_or, numbered}
 use Rattle.o2_swapmap.specs.Piles.{all_of}
@@ -150,25 +150,6 @@ module _ (s : Shelf) (m n : Maps) (pid i : ℕ) (h : Held) (at : held_at m pid i
 abbrev pub AreEmpty : Maps → Type 0
 AreEmpty m = (q i : ℕ) → held_at m q i ≡ None → descriptor_at m q i ≡ empty
 
-pub empty_settled : (s : Shelf) (m : Maps) → IsSettled s m → AreEmpty m
-empty_settled s m w q i e = subst (λ (o : Option Held). IsSettledAt s o (descriptor_at m q i)) e (w q i)
-
-pub lets_none : (m : Maps) (pid : ℕ) → LetsGo m m pid (λ i. nat_lt i 0)
-lets_none m pid = record {
-  processes = refl;
-  held = λ q i. none (q == pid) (nat_lt i 0) None (held_at m q i) (low i);
-  described = λ q i. none (q == pid) (nat_lt i 0) empty (descriptor_at m q i) (low i);
-  lengths = λ q. refl;
-}
-  where
-    low : (i : ℕ) → nat_lt i 0 ≡ false
-    low i = grind arith
-
-    none : {X : Type 0} (b c : Bool) (a x : X) → c ≡ false → x ≡ cond (b && c) a x
-    none true true a x e = absurd (false≢true (sym e))
-    none true false a x e = refl
-    none false c a x e = refl
-
 below_next : (i from : ℕ) → nat_lt i (from + 1) ≡ (nat_lt i from || (i == from))
 below_next i from = grind arith
 
@@ -243,19 +224,6 @@ lets_same l m n pid gone is v = record {
 }
 
 -- What is let go of the store in one step and then in another.
-
-pub sheds_self : (s : Shelf) (m : Maps) → Sheds s m s m
-sheds_self s m = record {
-  memory = refl;
-  size = refl;
-  count = refl;
-  made = refl;
-  map = refl;
-  same = λ k x. keeps s k;
-  left = λ k x y. x;
-  other = λ k x y. x;
-  gone = λ k sure lost. absurd (false≢true (sym lost ∙ sure));
-}
 
 same_number : (s t : Shelf) (k : ℕ) → KeepsSegment s t k → numbered t k ≡ numbered s k
 same_number s t k x = ap (λ (o : Option Entry). record { key = k; age = (entry_or o).age }) x.entry

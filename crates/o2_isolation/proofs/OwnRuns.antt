@@ -24,7 +24,7 @@ use Rattle.o2_world.specs.HugeRulings.{all_bytes, all_dropped, all_hold, bytes_o
 use Rattle.o2_world.specs.HugeRulings.{is_first, is_huge_fault, left_in_run, new_members, other_shares, resized_members, resized_one, run_changes}
 use Rattle.o2_world.specs.HugeRulings.{run_resized, segments_of, sizes_of}
 use Rattle.o2_world.proofs.HugeMoves.{chosen_run}
-use Rattle.o2_world.proofs.Quiet.{changes_come, alloc_quiet, free_quiet, read_quiet, set_quiet, write_quiet}
+use Rattle.o2_world.proofs.Quiet.{changes_come, alloc_quiet, free_quiet, read_quiet, request_quiet, set_quiet, wait_quiet, write_quiet}
 use Rattle.o2_world.proofs.Serving.{by_entry}
 use Rattle.o2_alone.specs.Renaming.{Asking, are_for_others, asking_of, asks_members, asks_nothing, asks_others, asks_run, asks_segment, call_of, called_by, is_shared_run, reaches_shared}
 use Rattle.o2_alone.specs.Keeping.{meets}
@@ -336,7 +336,7 @@ unshared_rows = (
                                 by_its_ruling _ _ _ _ huge_allocation_is,
                                 (
                                   by_its_ruling _ _ _ _ huge_reallocation_is,
-                                  (by_its_ruling _ _ _ _ shift_is, (by_its_ruling _ _ _ _ avail_is, (quiet _ _ set_quiet, (quiet _ _ alloc_quiet, (quiet _ _ free_quiet, tt))))),
+                                  (by_its_ruling _ _ _ _ shift_is, (by_its_ruling _ _ _ _ avail_is, (quiet _ _ set_quiet, (quiet _ _ alloc_quiet, (quiet _ _ free_quiet, (quiet _ _ request_quiet, (quiet _ _ (λ b a. refl), (quiet _ _ wait_quiet, (quiet _ _ (λ b a. refl), tt))))))))),
                                 ),
                               ),
                             ),
@@ -373,7 +373,7 @@ module _ (b : Before) where
   either_step false e f h k = k
 
   single_unshared : (e : Effect) → AreUnshared e.changes → AreUnshared (single_stepped b e).changes
-  single_unshared e h = either_step (has_trap_flag b.cpu.flags && is_live e.state) _ e h h
+  single_unshared e h = either_step (has_trap_flag b.cpu.flags && (is_live e.state && not e.waits)) _ e h h
 
   pub effect_unshared : IsForItselfAt b (call_of b) → AreUnshared (effect b).changes
   unfolding effect

@@ -7,16 +7,15 @@ use Rattle.o2_base.specs.declared.memory.Fail.TheVariants.{NoMemory, Bad}
 use Rattle.o2_base.specs.declared.faults.ModuleFault.{ModuleFault}
 use Rattle.o2_base.specs.declared.faults.ModuleFault.TheVariants.{NoSegment}
 use Rattle.o2_base.specs.Selectors.{selector_of}
-use Rattle.o2_dynlink.specs.Outcome.{LinkedParts}
 use Rattle.o2_world.specs.declared.types.Made.{Made}
 use Rattle.o2_world.specs.Map.{get}
 use Rattle.o2_world.specs.World.{Segment, Held}
 use Rattle.o2_world.specs.Opening.{held_by_load}
 use Rattle.o2_world.specs.Starts.{Built, Holding, segment_of, made_with, name_in, named, holds, holds_as, with_holding}
 use Rattle.o2_load.specs.Memory.{Memory, MakesName, KeepsHolds, KeepsSetting, OthersStay}
-use Rattle.o2_load.specs.Holds.{Names, Stage, IsHolding, IsReady, IsOver, HoldsAt, Makes, AddsNew, Adds, ComesTo, gripped}
+use Rattle.o2_load.specs.Holds.{Names, Stage, IsHolding, IsOver, HoldsAt, Makes, AddsNew, Adds, ComesTo, gripped}
 use Rattle.o2_load.specs.declared.starting_memory.Grip.{Grip}
-use Rattle.o2_load.proofs.Names.{below_more, below_made, as_found}
+use Rattle.o2_load.proofs.Names.{as_found}
 
 -- a name that the process holds
 pub held_more : (before after : Names) (x y : Stage) (most pid : ℕ) (b : Built) (h : Holding) (name : ℕ) → y.memory.count ≡ x.memory.count → OthersStay x.memory y.memory pid
@@ -63,26 +62,6 @@ pub named_over : (names : Names) (x : Stage) (most pid : ℕ) (b : Built) (h : H
 named_over names x most pid b h fault full is = record {
   fault = full.0;
   over = let a = full.1 in let c = is.most in let d = is.count in omega (arith, a, c, d);
-}
-
-pub ready_held : (whole whole' : Type 0) (m n : Memory) (made : List Made) (l : LinkedParts) (pid : ℕ) → whole' → n.count ≡ m.count → OthersStay m n pid → IsReady whole m made l → IsReady whole' n made l
-ready_held whole whole' m n made l q w count stays is = record {
-  whole = w;
-  made = below_more made m.count n.count (omega (arith, count)) is.made;
-  own = λ pid i there some low. stays.setting.takes pid i ∙ is.own pid i there some low;
-  shared = λ pid place k i p there which library at. stays.setting.takes pid i ∙ is.shared pid place k i p there which library at;
-}
-
-pub ready_named : (whole whole' : Type 0) (m n : Memory) (made : List Made) (h : Holding) (name : ℕ) (l : LinkedParts) → whole' → MakesName m n name → KeepsHolds m n → IsReady whole m made l
-    → IsReady whole' n (made_with made h name) l
-ready_named whole whole' m n made h name l w makes held is = record {
-  whole = w;
-  made =
-      let a = makes.count in
-      let c = makes.name in
-      below_made made h name n.count (omega (arith, a, c)) (below_more made m.count n.count (omega (arith, a)) is.made);
-  own = λ pid i there some low. held.setting.takes pid i ∙ is.own pid i there some low;
-  shared = λ pid place k i p there which library at. held.setting.takes pid i ∙ is.shared pid place k i p there which library at;
 }
 
 -- a new name that is refused

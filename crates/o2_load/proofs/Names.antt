@@ -1,13 +1,8 @@
 -- The names that are made.
-use Rattle.std.proofs.Common.{◌≡◌, ℕ, zero, suc, ◌++◌, Bool, true, false, ◌<◌, ◌≤◌, List, [], ◌∷◌, Option, Some, None, OnOk, IfSome, if◌then◌else◌, ◌==◌, ◌&&◌, ap, sym, ◌∙◌, arith}
-use Rattle.std.specs.Prelude.{Result, Ok, Err}
+use Rattle.std.proofs.Common.{◌≡◌, ℕ, suc, Bool, true, false, ◌<◌, ◌≤◌, List, [], ◌∷◌, Option, Some, None, IfSome, if◌then◌else◌, ◌==◌, ◌&&◌, ap, sym, ◌∙◌, arith}
 use Rattle.std.specs.List.{All}
 use Rattle.o2_world.specs.declared.types.Made.{Made}
-use Rattle.o2_world.specs.Starts.{Built, Holding, made_with, name_in, holds_as, with_holding}
-
-pub on_ok : {X E : Type 0} (r : Result X E) (P Q : Type 0) → (P → Q) → OnOk r P → OnOk r Q
-on_ok (Ok x) P Q f p = f p
-on_ok (Err e) P Q f p = tt
+use Rattle.o2_world.specs.Starts.{Built, Holding, name_in, holds_as, with_holding}
 
 -- the common names are below a count
 abbrev pub AreBelow : ℕ → List Made → Type 0
@@ -27,20 +22,6 @@ name_is_made (m ∷ ms) place number count h =
 -- with more names they stay so
 pub below_more : (ms : List Made) (count more : ℕ) → count ≤ more → AreBelow count ms → AreBelow more ms
 below_more ms count more le h k d less = let x = h k d less in omega (arith, le, x)
-
-below_behind : (ms : List Made) (m : Made) (count : ℕ) → m.name < count → AreBelow count ms → AreBelow count (ms ++ m ∷ [])
-below_behind [] m count some h zero d less = some
-below_behind [] m count some h (suc k) d less = absurd (omega (arith, less))
-below_behind (x ∷ xs) m count some h zero d less = h 0 d (omega arith)
-below_behind (x ∷ xs) m count some h (suc k) d less = below_behind xs m count some (λ j e l. h (suc j) e (omega (arith, l))) k d (omega (arith, less))
-
--- and one more may be common
-pub below_made : (ms : List Made) (h : Holding) (name count : ℕ) → name < count → AreBelow count ms → AreBelow count (made_with ms h name)
-below_made ms h name count some below = go h.common
-  where
-    go : (b : Bool) → AreBelow count (if b then ms ++ record { place = h.place; number = h.number; name = name } ∷ [] else ms)
-    go true = below_behind ms (record { place = h.place; number = h.number; name = name }) count some below
-    go false = below
 
 -- what a common segment is held as
 pub as_found : (b : Built) (made : List Made) (h : Holding) (o : Option ℕ) → b.made ≡ made → o ≡ (if h.common then name_in made h.place h.number else None) → holds_as b h o ≡ with_holding b h

@@ -55,10 +55,6 @@ held_is : (id : SegId) (o : Option HeldThere) → is_of id o ≡ true → (h : H
 held_is id None e = absurd (cc)
 held_is id (Some h) e = (h, (refl, eqb-true h.id.key id.key (and_parts (h.id.key == id.key) (h.id.age == id.age) e).0))
 
-at_if : (t : Bool) (P : Bool → Type 0) → P true → (t ≡ false → P false) → P t
-at_if true P a b = a
-at_if false P a b = b refl
-
 module _ (s : Shelf) (m n : Maps) (ids : List SegId) (pid i rights limit : ℕ) (id : SegId) (p : IsProcess m pid) (low : i < 8192) (some : 1 ≤ i) (is : AreMapped s m ids)
     (loads : Loads m n pid i id rights limit) (known : slice_get ids id.age ≡ Some id) (out : (k : ℕ) → place_of s k ≡ None) (size : limit + 1 ≡ (entry s id.key).size) where
   within : i < length (table_of m pid)

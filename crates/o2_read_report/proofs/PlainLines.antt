@@ -12,7 +12,7 @@ use Rattle.o2_world.specs.declared.types.State.TheVariants.{Trapped}
 use Rattle.o2_world.specs.World.{Line, HoldsBy, DropsBy, Traps, is_live}
 use Rattle.o2_world.specs.Changes.{Change, Makes, Resizes, Locks, Marks, Holds, Drops, Finishes, Reserves, Frees, Names, among, drop_lines_of, hold_lines_of, in_order, key_of, moved_lines}
 use Rattle.o2_world.specs.CallParts.{Before, Effect, trapped}
-use Rattle.o2_world.specs.Outcomes.{CallRow, Does, Fails, Leaves, Outcome, come_out}
+use Rattle.o2_world.specs.Outcomes.{CallRow, Does, Fails, Waits, Leaves, Outcome, come_out}
 use Rattle.o2_world.specs.Calls.{rows, serviced}
 use Rattle.o2_world.specs.RowLaws.{EachRow}
 use Rattle.o2_world.specs.Effect.{answered, effect, has_trap_flag, single_stepped}
@@ -122,6 +122,7 @@ module _ (b : Before) (small : b.number < 10 ^ 64) where
   out_plain : (r : CallRow) (next : ℕ) (a : ℕ → ℕ) (o : Outcome) → IsPlainRow r → HasPlainLines (come_out r b next a o)
   out_plain r next a (Fails error values) plain all = (record { process = small; names = plain.0 }, tt)
   out_plain r next a (Does d) plain all = (record { process = small; names = plain.0 }, moved_plain r.name plain.1 d.changes all)
+  out_plain r next a Waits plain all = tt
   out_plain r next a (Leaves action code) plain all = (record { process = small; names = tt }, (record { process = small; names = tt }, tt))
 
   service_plain : (service next : ℕ) → HasPlainLines (serviced b service next)
@@ -141,7 +142,7 @@ module _ (b : Before) (small : b.number < 10 ^ 64) where
   by_flag e plain false all = plain all
 
   single_plain : (e : Effect) → HasPlainLines e → HasPlainLines (single_stepped b e)
-  single_plain e plain = by_flag e plain (has_trap_flag b.cpu.flags && is_live e.state)
+  single_plain e plain = by_flag e plain (has_trap_flag b.cpu.flags && (is_live e.state && not e.waits))
 
   pub effect_plain : HasPlainLines (effect b)
   unfolding effect

@@ -8,7 +8,6 @@ use Rattle.o2_desc.specs.declared.descriptor.Descriptor.{Descriptor}
 use Rattle.o2_entries.specs.declared.Entry.{Entry}
 use Rattle.o2_phys.specs.Bytes.{part}
 use Rattle.o2_isa.specs.declared.instr.Width.{Width}
-use Rattle.o2_isa.specs.declared.instr.Width.TheVariants.{Byte, Word}
 use Rattle.o2_isa.specs.declared.instr.Sreg.{Sreg}
 use Rattle.o2_isa.specs.View.{View, Hold, is_writable, in_register, reached, room_of, poke, poke_hold, with_bytes, put_at, width_len, outside}
 use Rattle.o2_isa.proofs.Pokes.{length_put_at}
@@ -95,10 +94,6 @@ AreApart s = (i j a l b n : ℕ) → i ≢ j → place_of s i ≡ Some (a, l) �
 
 abbrev pub with_memory : Shelf → List ℕ → Shelf
 with_memory s memory = record s { memory = memory }
-
-width_some : (w : Width) → 1 ≤ width_len w
-width_some Byte = omega arith
-width_some Word = omega arith
 
 own_bytes : (s : Shelf) (d : Descriptor) (h : Hold) (k : ℕ) (w : Width) (x : ℕ) → HasPart s d h → k + width_len w ≤ d.limit + 1
     → bytes_under (with_memory s (put_at s.memory (d.base + k) w x)) (key_of s h.name) ≡ put_at (bytes_in s h.name) k w x

@@ -1,19 +1,12 @@
 -- Texts with folded letters, byte by byte.
-use Rattle.std.proofs.Common.{◌≡◌, ℕ, suc, ◌+◌, ◌<◌, ◌≤◌, ◌==◌, ◌&&◌, Bool, true, false, List, [], ◌∷◌, ◌++◌, length, take, drop, get_or, set, refl, sym, ap, ◌∙◌, arith}
+use Rattle.std.proofs.Common.{◌≡◌, ℕ, suc, ◌+◌, ◌<◌, ◌≤◌, ◌==◌, ◌&&◌, Bool, true, false, List, [], ◌∷◌, length, take, drop, get_or, refl, sym, ap, ◌∙◌, arith}
 use Rattle.std.proofs.lemmas.Bool.{and_right, ne_eqb, eq-eqb}
-use Rattle.std.proofs.lemmas.List.{drop_more, get_or-map, get_or-take, length-drop, length-map, length-take-le, map_more, take_all, take_more_set}
+use Rattle.std.proofs.lemmas.List.{drop_more, get_or-map, get_or-take, length-drop, length-map, length-take-le}
 use Rattle.std.specs.Char.{to_ascii_lowercase}
 use Rattle.o2_world.specs.Known.{same_text}
 use Rattle.o2_world.specs.SharedNames.{folded}
 
 -- A text is folded into a row of bytes.
-
-pub folded_more : (text bytes : List ℕ) (k y : ℕ) → k < length text → k < length bytes → y ≡ to_ascii_lowercase (get_or text k 0) → take k bytes ≡ folded (take k text) → take (k + 1) (set bytes k y) ≡ folded (take (k + 1) text)
-folded_more text bytes k y a b is so_far =
-    take_more_set bytes k y b ∙ ap (λ (xs : List ℕ). xs ++ y ∷ []) so_far ∙ ap (λ (x : ℕ). folded (take k text) ++ x ∷ []) is ∙ sym (map_more to_ascii_lowercase text k 0 a)
-
-pub folded_all : (text bytes : List ℕ) (n : ℕ) → n ≡ length text → take n bytes ≡ folded (take n text) → take n bytes ≡ folded text
-folded_all text bytes n e so_far = so_far ∙ ap folded (take_all n text (omega (arith, e)))
 
 -- Two texts are compared.
 

@@ -93,7 +93,3 @@ words_stay bytes i ((at, w) ∷ ws) o = words_stay (put_word bytes (at, w)) i ws
 pub others_stay : (bytes : List ℕ) (h : Heap) (i : ℕ) → IsOutside i (controls h) → get_or (with_controls h bytes) i 0 ≡ get_or bytes i 0
 unfolding with_controls
 others_stay bytes h i o = words_stay bytes i (controls h) o
-
-pub written_length : (bytes : List ℕ) (h : Heap) → length (with_controls h bytes) ≡ length bytes
-unfolding with_controls
-written_length bytes h = words_length bytes (controls h)

@@ -7,6 +7,7 @@ use Rattle.o2_isa.specs.Reading.{decoded}
 use Rattle.o2_text.specs.Text.{text_of}
 use Rattle.o2_tool.specs.Text.{hex4, hex_text, shown_text}
 use Rattle.o2_trace.specs.declared.step.Before.{Before}
+use Rattle.o2_trace.specs.declared.waiter.Waiter.{Waiter}
 
 -- what the bytes at CS:IP spell
 abbrev pub at_ip : Before → Decoded
@@ -46,6 +47,10 @@ front_text b count =
 -- the text, and behind it in a column what has changed
 abbrev pub rest_text : List ℕ → List ℕ → List ℕ
 rest_text text changed = if length changed == 0 then text else text ++ (gap 32 (min (length text) 32) ++ changed)
+
+abbrev pub waiter_text : Waiter → List ℕ
+waiter_text w =
+    codes "process " ++ (decimal w.process ++ (codes " waits at " ++ (hex4 w.cs ++ (codes ":" ++ (hex4 w.ip ++ (codes " in " ++ shown_text w.call.now))))))
 
 abbrev pub step_text : Before → List ℕ → List ℕ
 step_text b changed =

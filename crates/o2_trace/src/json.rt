@@ -8,6 +8,7 @@ use crate::changes::Change;
 use crate::exception::{Exception, Place, name_of};
 use crate::step::{Before, code_text, shown_count, spelled};
 use crate::told::Told;
+use crate::waiter::Waiter;
 use o2_isa::{Cpu, Sreg};
 use o2_tool::Hex;
 use serde_json::{Map, Value, put};
@@ -305,20 +306,30 @@ fn call(alloc: Global, report: &str) -> Result<Value, AllocError> {
     Ok(Value::Object(map))
 }
 
-/// How a step's process ended, or null.
-fn end(alloc: Global, report: &str) -> Result<Value, AllocError> {
-    let line = line_of(report, "end");
-    if line.is_empty() {
+/// A text, or null where it is empty.
+fn text_or_null(alloc: Global, text: &str) -> Result<Value, AllocError> {
+    if text.is_empty() {
         return Ok(Value::Null);
     }
-    Value::try_from_str(alloc, line)
+    Value::try_from_str(alloc, text)
 }
 
 /// Puts what is told by the lines of a report.
 fn put_lines(alloc: Global, map: &mut Members, report: &str) -> Result<(), AllocError> {
     put(map, alloc, "report", parts(alloc, report, '\n')?)?;
     put(map, alloc, "call", call(alloc, report)?)?;
-    put(map, alloc, "end", end(alloc, report)?)
+    put(
+        map,
+        alloc,
+        "end",
+        text_or_null(alloc, line_of(report, "end"))?,
+    )
+}
+
+/// Puts the name of the call in which a process waits, or null.
+fn put_wait(alloc: Global, map: &mut Members, call: &[u8]) -> Result<(), AllocError> {
+    let name = text_of(alloc, call)?;
+    put(map, alloc, "waits", text_or_null(alloc, name.as_str())?)
 }
 
 /// Puts what a step put to console and report.
@@ -338,6 +349,17 @@ pub fn step_json(alloc: Global, told: &Told<'_>) -> Result<String, AllocError> {
     let mut map = Map::new(alloc);
     put_step(alloc, &mut map, told)?;
     put_output(alloc, &mut map, told)?;
+    put_wait(alloc, &mut map, told.waits)?;
+    Value::Object(map).to_string(alloc)
+}
+
+/// A process that waits at the end of the run, as an object of JSON in one line.
+pub fn waiter_json(alloc: Global, waiter: &Waiter<'_>) -> Result<String, AllocError> {
+    let mut map = Map::new(alloc);
+    put(&mut map, alloc, "process", Value::from(waiter.process))?;
+    put(&mut map, alloc, "cs", Value::from(waiter.cs))?;
+    put(&mut map, alloc, "ip", Value::from(waiter.ip))?;
+    put_wait(alloc, &mut map, waiter.call)?;
     Value::Object(map).to_string(alloc)
 }
 

@@ -1,5 +1,5 @@
 // The line of a step.
-ghost use Rattle.std.specs.Prelude.{◌≡◌, ◌≤◌, ◌++◌, [], IfOk, IfNone, IfSome, OnOk, string_bytes};
+ghost use Rattle.std.specs.Prelude.{◌≡◌, ◌≤◌, ◌++◌, [], IfOk, IfNone, IfSome, OnOk, codes, string_bytes};
 ghost use Rattle.o2_text.specs.Text.{text_of};
 ghost use Rattle.o2_tool.specs.Text.{shown_text};
 ghost use Rattle.o2_trace.specs.Registers.{change_text, general_text, pointers_text, segments_text, changes_text};
@@ -181,6 +181,13 @@ fn step_line(alloc: Global, before: &Before, changed: &str) -> Result<String, Al
     let rest = rest_line(alloc, text.as_str(), changed)?;
     let line = format!(in alloc; "{front}{rest}")?;
     Ok(line)
+}
+
+/// The line of a step that waits, by which no register changes.
+pub fn wait_text(alloc: Global, before: &Before) -> Result<String, AllocError>
+    ensures { IfOk result (λ s. string_bytes s ≡ step_text before.now (codes " waits")) }
+{
+    step_line(alloc, before, " waits")
 }
 
 /// The registers that a step changed; of one that ended its process, none.

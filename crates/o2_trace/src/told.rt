@@ -15,6 +15,8 @@ pub struct Told<'a> {
     pub after: Option<Cpu>,
     /// The exception that ended its process.
     pub exception: Option<Exception>,
+    /// The name of the call in which its process waits behind it; empty where it doesn't wait.
+    pub waits: &'a [u8],
     /// The bytes that it changed in what its process holds before and after it.
     pub changes: &'a [Change],
     /// What it put to the console.
