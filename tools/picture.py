@@ -1,7 +1,7 @@
 #!/usr/bin/env python3
 """Draws pictures from what a program wrote: in text, and lanes and memory as SVG too.
 
-  lanes REPORT     a column for each process, with what it did, in the order of the report
+  lanes REPORT     a column for each process, with what it did, in the order of the report; of a trace of os2trace also where it waits
   table CONSOLE    the local table that examples/selectors/table.exe wrote: kinds and sizes
   patches NAME     the bytes of NAME.lst before loading, and those of NAME.console after it
   memory LAYOUT    memory at some moments, side by side; in SVG a selector has one colour in all of them
@@ -29,10 +29,31 @@ def lines_of(path):
         return file.read().splitlines()
 
 
+def lines_told(path):
+    """The lines of a report. Of a trace, which has them behind `|`, with a line `P waits` where process P begins to wait."""
+    lines = lines_of(path)
+    if not any(line.startswith("| ") for line in lines):
+        return lines
+    told, waiting = [], set()
+    for line in lines:
+        step = re.match(r"(\d+) [0-9A-F]{4}:[0-9A-F]{4} ", line)
+        if line.startswith("| "):
+            told.append(line[2:])
+        elif step and line.endswith(" waits"):
+            if step[1] not in waiting:
+                told.append(f"{step[1]} waits")
+            waiting.add(step[1])
+        elif step:
+            waiting.discard(step[1])
+        elif line.startswith("process "):
+            told.append(line)
+    return told
+
+
 def events(report):
     """What each process did, in the order of the report: the process's number and a text; of all at once the number is None."""
     rows, holds = [], {}
-    for line in lines_of(report):
+    for line in lines_told(report):
         number, _, what = line.partition(" ")
         if not number.isdigit():
             rows.append((None, line))

@@ -190,7 +190,7 @@ def calls():
                 title = f"program {k} of SEED={seed} in {size} behind step {snapshot.step}"
                 status, console, report = dump(with_budget(machine.text(size, 65536), snapshot.step))
                 texts = machine.wanted(snapshot.step)
-                over = "all ended\n" if snapshot.step == len(machine.events) else "budget spent\n"
+                over = machine.over if snapshot.step == len(machine.events) else "budget spent\n"
                 wants(f"{title}: report", (status, report) == (0, texts[1] + over), (status, report.splitlines()[-2:]))
                 core = read(title, console)
                 if core is not None:

@@ -221,7 +221,7 @@ class Machine:
     def __init__(self, dice):
         self.modules = [Program(dice, name) for name in ["ONE", "OTHER"][: dice.randint(1, 2)]]
         self.processes = [dice.choice(self.modules) for _ in range(dice.randint(1, 3))]
-        self.quantum = dice.choice([1, 1, 2, 7, 1000])
+        self.quantum, self.over = dice.choice([1, 1, 2, 7, 1000]), "all ended\n"
         self.opening = [f"{pid} {line}" for pid, program in enumerate(self.processes, 1) for line in program.start()]
         self.events = list(self.turns())
 
@@ -286,8 +286,8 @@ class Heaping(Calling):
     goes_well = True
 
 
-def tail(status):
-    return "all ended\n" if status == 0 else "".join(LINES[status])
+def tail(status, over="all ended\n"):
+    return over if status == 0 else "".join(LINES[status])
 
 
 def sizes_for(dice, machine):
@@ -309,7 +309,7 @@ def in_memory(title, machine, memory):
     until = machine.stop_in(memory)
     code = 0 if until == len(machine.events) else 8
     texts = machine.wanted(until)
-    well = (status, console, report) == (code, texts[0], texts[1] + tail(code))
+    well = (status, console, report) == (code, texts[0], texts[1] + tail(code, machine.over))
     wants(f"{title} in {memory}", well, f"status {status}, wanted {code} before step {until + 1}; {report.splitlines()[-2:]}")
     return console, report
 
@@ -342,7 +342,7 @@ def with_blocks(title, machine, memory, swap):
     else:
         code = 0 if until == len(machine.events) else 8
         texts = machine.wanted(until)
-        well = (status, console, report) == (code, texts[0], texts[1] + tail(code))
+        well = (status, console, report) == (code, texts[0], texts[1] + tail(code, machine.over))
     wants(f"{title} in {memory} with {swap} blocks", well, f"status {status}; {report.splitlines()[-2:]}")
 
 

@@ -470,6 +470,15 @@ def picture():
     run = subprocess.run([os.path.join(TOOLS, "picture.py"), "lanes", "two.report"], capture_output=True, text=True)
     lines = [line.split() for line in run.stdout.splitlines()]
     wants("lanes", run.returncode == 0 and lines[0] == ["process", "1", "process", "2"] and lines[-1] == ["all", "ended"] and ["DosExit", "0", "0", "|"] in lines, run)
+    # of a trace: that a process waits is drawn once, until it has taken another step, in its own column
+    tries = "1 000F:0000 9A00004B01           call 0x014B:0x0000               waits\n2 000F:0000 EBFE                 jmp short 0x0000\n"
+    with open("two.trace", "w") as file:
+        file.write("| 1 hold 000F by load\n| 2 hold 000F by load\n" + 3 * tries + "1 000F:0000 9A00004B01           call 0x014B:0x0000               AX=0000 SP=0210\n"
+                   "| 1 call DosSemRequest 0017:0000 FFFFFFFF = 0\n" + 2 * tries + "| budget spent\nprocess 1 waits at 000F:0000 in DosSemRequest\n")
+    run = subprocess.run([os.path.join(TOOLS, "picture.py"), "lanes", "two.trace"], capture_output=True, text=True)
+    lines = [line.split() for line in run.stdout.splitlines()]
+    drawn = [["waits", "|"], ["DosSemRequest", "0017:0000", "FFFFFFFF", "=", "0", "|"], ["waits", "|"], ["budget", "spent"], "process 1 waits at 000F:0000 in DosSemRequest".split()]
+    wants("lanes of a trace", run.returncode == 0 and lines[-5:] == drawn and lines.count(["waits", "|"]) == 2, run)
     from xml.etree import ElementTree
 
     layout = os.path.join(EXAMPLES, "memory", "rounds.layout")

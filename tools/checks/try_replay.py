@@ -15,10 +15,14 @@ STRINGS = (0xA4, 0xA5, 0xA6, 0xA7, 0xAA, 0xAB, 0xAC, 0xAD, 0xAE, 0xAF)
 # The calls that are built, with their ordinals and the numbers of their gates.
 GATES = {"DosExit": 1, "DosGetPID": 2, "DosRead": 3, "DosWrite": 4, "DosAllocSeg": 5, "DosReallocSeg": 6, "DosFreeSeg": 7, "DosSizeSeg": 8,
          "DosLockSeg": 9, "DosUnlockSeg": 10, "DosCreateCSAlias": 11, "DosAllocShrSeg": 12, "DosGetShrSeg": 13, "DosGiveSeg": 14, "DosGetSeg": 15,
-         "DosAllocHuge": 16, "DosReallocHuge": 17, "DosGetHugeShift": 18, "DosMemAvail": 19, "DosSubSet": 20, "DosSubAlloc": 21, "DosSubFree": 22}
+         "DosAllocHuge": 16, "DosReallocHuge": 17, "DosGetHugeShift": 18, "DosMemAvail": 19, "DosSubSet": 20, "DosSubAlloc": 21, "DosSubFree": 22,
+         "DosSemRequest": 25, "DosSemClear": 26, "DosSemWait": 27, "DosSemSet": 28}
 ORDINALS = {5: "DosExit", 94: "DosGetPID", 137: "DosRead", 138: "DosWrite", 34: "DosAllocSeg", 38: "DosReallocSeg", 39: "DosFreeSeg", 126: "DosSizeSeg",
             122: "DosLockSeg", 123: "DosUnlockSeg", 43: "DosCreateCSAlias", 35: "DosAllocShrSeg", 36: "DosGetShrSeg", 37: "DosGiveSeg", 121: "DosGetSeg",
-            40: "DosAllocHuge", 42: "DosReallocHuge", 41: "DosGetHugeShift", 127: "DosMemAvail", 146: "DosSubSet", 147: "DosSubAlloc", 148: "DosSubFree"}
+            40: "DosAllocHuge", 42: "DosReallocHuge", 41: "DosGetHugeShift", 127: "DosMemAvail", 146: "DosSubSet", 147: "DosSubAlloc", 148: "DosSubFree",
+            140: "DosSemRequest", 141: "DosSemClear", 142: "DosSemWait", 143: "DosSemSet"}
+# What calls on a semaphore write there, of process 1.
+SEMAPHORES = {"DosSemRequest": 1, "DosSemClear": 0, "DosSemSet": 0xFFFF}
 GROUPS = (0x80, 0x81, 0x83, 0xC0, 0xC1, 0xD0, 0xD1, 0xD2, 0xD3, 0xF6, 0xF7)
 ARITHMETIC = 0x0CD5
 
@@ -132,11 +136,14 @@ def served(segments, call, source):
     if error != "0" or name == "DosExit":
         return
     pointers = [tuple(int(part, 16) for part in word.split(":")) for word in words.split(" ") if ":" in word]
-    first, *others = (int(word, 16) for word in words.split(" ") if ":" not in word)
+    first, *others = [int(word, 16) for word in words.split(" ") if ":" not in word] or [0]
     numbers = [int(value, 16) for value in values.split()]
     if name.startswith("DosSub") and not heaps.called(segments[first | 7], name, others, numbers):
         wrong(f"{call!r}: the segment's bytes say something else")
-    if pointers:
+    if name in SEMAPHORES:
+        selector, at = pointers[0]
+        struct.pack_into("<I", segments[selector | 7], at, SEMAPHORES[name])
+    elif pointers:
         selector, at = pointers[-1]
         form = "<I" if name in ("DosMemAvail", "DosSizeSeg") else f"<{len(numbers)}H"
         struct.pack_into(form, segments[selector], at, *numbers)
@@ -201,6 +208,8 @@ def replay(name, file, trace, source):
             break
         if any(row.startswith(("!", "| 1 end")) for row in behind):
             break
+        if line.endswith(" waits"):
+            continue
         wanted, called = told(regs, code, changes), [row for row in behind if row.startswith("| 1 call")]
         if called:
             served(segments, called[0], source)

@@ -52,6 +52,28 @@ def check_trace():
     first_input()
     read_in_between()
     written_by_another()
+    waits()
+
+
+def waits():
+    """Who waits is told behind the last line of the run, whatever steps are shown, and not where the trace ends before; who stands at a jump to itself
+    doesn't wait."""
+    folder = os.path.join(EXAMPLES, "semaphores")
+    told = [f"process {number} waits at 000F:002D in DosSemRequest" for number in (1, 2)]
+    for words, wanted in (([], told), (["--to", "49"], []), (["--process", "1", "--from", "45"], told), (["--selector", "1F"], told)):
+        trying.count()
+        run = subprocess.run([program("os2trace"), "run", *words, "cross.toml"], cwd=folder, stdin=subprocess.DEVNULL, stdout=subprocess.PIPE, text=True)
+        lines = run.stdout.splitlines()
+        if run.returncode or [line for line in lines if line.startswith("process ")] != wanted or wanted and lines[-3:] != ["| budget spent", *wanted]:
+            wrong(f"os2trace run {' '.join(words)} cross.toml: status {run.returncode}, {lines[-4:]}; wanted {wanted}")
+    trying.count()
+    with open("stands.exe", "wb") as file:
+        file.write(ne.Listing("module STANDS\nstack 512\nstart 1:0000\nsegment 1 code\n0000  EB FE\nsegment 2 data auto size=16\n").file())
+    with open("stands.toml", "w") as file:
+        file.write('memory = 4096\nswap = 0\nsegments = 3\nbudget = 9\nquantum = 1\nmodules = ["stands.exe"]\n[[process]]\nmodule = "STANDS"\n')
+    status, text = said("os2trace", "run", "stands.toml")
+    if status or "waits" in text or text.splitlines()[-1:] != ["| budget spent"]:
+        wrong(f"os2trace, a jump to itself: status {status}, {text.splitlines()[-3:]}")
 
 
 def traced(code):

@@ -11,7 +11,9 @@ import ne
 from trying import EXAMPLES, program, said, wants, wrong
 
 REGISTERS = {"AX", "BX", "CX", "DX", "SI", "DI", "BP", "SP", "CS", "DS", "ES", "SS", "IP", "FLAGS"}
-KEYS = {"step", "process", "cs", "ip", "code", "text", "before", "after", "writes", "trap", "console", "report", "call", "end"}
+KEYS = {"step", "process", "cs", "ip", "code", "text", "before", "after", "writes", "trap", "console", "report", "call", "end", "waits"}
+# The keys of a process that waits at the end of the run.
+WAITER = {"process", "cs", "ip", "waits"}
 
 # How many steps of an example are looked at.
 STEPS = 600
@@ -33,7 +35,7 @@ def objects(title, text):
             wrong(f"{title}: {line!r} is no JSON: {why}")
             continue
         keys = set(found[-1])
-        if keys != KEYS and keys != {"report"}:
+        if keys not in (KEYS, {"report"}, WAITER):
             wrong(f"{title}: the keys {sorted(keys)}")
     return found
 
@@ -71,12 +73,14 @@ def trap_line(it):
 
 def as_lines(it):
     """The lines of an object in the other form, but for the text that is a column's."""
+    if set(it) == WAITER:
+        return [f"process {it['process']} waits at {it['cs']:04X}:{it['ip']:04X} in {it['waits']}"]
     if "step" not in it:
         return ["| " + shown(line) for line in it["report"]]
     before, after, count = it["before"], it["after"], len(it["code"]) // 2
     following = it["ip"] if it["text"] == "no instruction" else (it["ip"] + count) % 65536
-    changed = ""
-    if after:
+    changed = " waits" if it["waits"] else ""
+    if after and not it["waits"]:
         for name in ("ax", "bx", "cx", "dx", "si", "di", "bp", "sp", "cs", "ds", "es", "ss"):
             changed += f" {name.upper()}={after[name]:04X}" if after[name] != before[name] else ""
         changed += f" IP={after['ip']:04X}" if after["ip"] != following else ""
@@ -101,6 +105,8 @@ def check_object(title, it):
     end = [line.split(" ", 2)[2] for line in it["report"] if line.startswith(f"{it['process']} end ")] + [None]
     if it["call"] != call[0] or it["end"] != end[0] or (it["after"] is None) != bool(end[0]):
         wrong(f"{title}: step {it['step']}: {it['call']}, {it['end']}; wanted {call[0]}, {end[0]}")
+    if it["waits"] and (it["before"] != it["after"] or it["report"] or it["writes"] or it["waits"] not in ("DosSemRequest", "DosSemWait")):
+        wrong(f"{title}: step {it['step']}: it waits in {it['waits']}, and changes something")
     for registers in (it["before"], it["after"] or it["before"]):
         if {name.upper() for name in registers} != REGISTERS or not all(0 <= value < 65536 for value in registers.values()):
             wrong(f"{title}: step {it['step']}: registers {registers}")

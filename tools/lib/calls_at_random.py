@@ -16,6 +16,11 @@ NAMES = [b"\\SHAREMEM\\A", b"\\sharemem\\a", b"\\ShareMem\\b.txt", b"\\SHAREMEM\
 NO_NAMES = [b"", b"\\SHAREMEM\\", LONGEST + b"!", b"\\SHAREMEM\\A B", b"\\SHAREMEM\\\x7f", b"\\SHAREMEM\\\xc1", b"\\SHAREMEN\\A", b"SHAREMEM\\A"]
 ENDLESS = b"\\SHAREMEM\\C"
 
+# The calls on semaphores by their numbers, of which two have a timeout, and the timeout of one that waits.
+SEMAPHORES = {25: "DosSemRequest", 26: "DosSemClear", 27: "DosSemWait", 28: "DosSemSet"}
+REQUEST, CLEAR, WAIT, SET = SEMAPHORES
+FOREVER = 0xFFFFFFFF
+
 
 def whole(n):
     """A length in whole paragraphs of 16 bytes."""
@@ -48,6 +53,10 @@ class Trap(Exception):
     """The process ends by exception 13."""
 
 
+class Waits(Exception):
+    """The process waits for a semaphore, of this segment and at this offset: its next step is this one again."""
+
+
 class Process:
     """A process that is made while it runs: each action is chosen when its first step is due, by what is held then."""
 
@@ -64,7 +73,7 @@ class Process:
             ENVIRONMENT: Hold(Segment(b"\0" + self.name.encode("ascii") + b"\0\0\0"), "data", True),
         }
         self.cs, self.ds, self.es, self.bx, self.ax, self.cx = 8 * CODE + 7, 8 * DATA + 7, 0, 1, 0, 0
-        self.actions = dice.randint(5, 60)
+        self.actions, self.waits = dice.randint(5, 60), None
 
     # What a step does. Each adds to `touched` what it needs beside the segment registers, and to `lines` and `piece` what it writes.
 
@@ -77,7 +86,7 @@ class Process:
 
     def take(self):
         """Takes the next step."""
-        self.touched, self.lines, self.piece = [], [], b""
+        self.touched, self.lines, self.piece, self.waits = [], [], b"", None
         if not self.steps:
             self.choose()
         at, act = self.steps.pop(0)
@@ -86,6 +95,9 @@ class Process:
         except Trap:
             self.lines.append(f"{self.pid} end trap 13 at {8 * CODE + 7:04X}:{at:04X}")
             self.end()
+        except Waits as semaphore:
+            self.steps.insert(0, (at, act))
+            self.waits = semaphore.args
 
     def end(self):
         self.live, self.held = False, {}
@@ -281,6 +293,19 @@ class Process:
         self.pointer(selector, at, 2, True)[at : at + 2] = (3).to_bytes(2, "little")
         self.back("DosGetHugeShift", f"{selector:04X}:{at:04X}", 0, "0003")
 
+    def semaphore(self, service, selector, at, timeout):
+        held = self.pointer(selector, at, 4, True)
+        is_clear, has_timeout, shown = not any(held[at : at + 4]), service in (REQUEST, WAIT), f"{selector:04X}:{at:04X}"
+        error = 0
+        if has_timeout:
+            shown += f" {timeout:08X}"
+            if not is_clear and timeout == FOREVER:
+                raise Waits(self.under(selector).segment, at)
+            error = 87 if timeout not in (0, FOREVER) else 0 if is_clear else 121
+        if not error and service != WAIT:
+            held[at : at + 4] = {REQUEST: self.pid, CLEAR: 0, SET: 0xFFFF}[service].to_bytes(4, "little")
+        self.back(SEMAPHORES[service], shown, error)
+
     def write(self, selector, at, count, other, to):
         piece = bytes(self.pointer(selector, at, count, False)[at : at + count])
         self.pointer(other, to, 2, True)[to : to + 2] = count.to_bytes(2, "little")
@@ -354,7 +379,7 @@ class Process:
         return [self.choose_alloc, self.choose_alloc, self.choose_realloc, self.choose_free, self.choose_size, self.choose_lock,
                 self.choose_unlock, self.choose_alias, self.choose_load, self.choose_load, self.choose_null, self.choose_put,
                 self.choose_put, self.choose_add, self.choose_count, self.choose_write, self.choose_go, self.choose_alloc_huge,
-                self.choose_realloc_huge, self.choose_realloc_huge, self.choose_shift]
+                self.choose_realloc_huge, self.choose_realloc_huge, self.choose_shift, self.choose_semaphore]
 
     def new_flags(self):
         dice = self.dice
@@ -395,6 +420,23 @@ class Process:
     def choose_shift(self):
         selector, at = self.target(2)
         self.call(18, lambda: self.shift(selector, at), selector, at)
+
+    def ask(self, service, selector, at, timeout=0):
+        words = [timeout >> 16, timeout & 0xFFFF] if service in (REQUEST, WAIT) else []
+        self.call(service, lambda: self.semaphore(service, selector, at, timeout), selector, at, *words)
+
+    def may_wait(self, selector, at):
+        """Whether a call may wait: of a semaphore that is the process's own, none does that would."""
+        hold = self.under(selector)
+        return bool(hold) and selector >> 3 < SHARED and not any(hold.segment.bytes[at : at + 4])
+
+    def ask_any(self, selector, at):
+        dice = self.dice
+        timeout = dice.choice([0, 0, FOREVER, FOREVER, dice.randrange(1 << 32)])
+        self.ask(dice.choice([REQUEST, REQUEST, CLEAR, WAIT, SET]), selector, at, 0 if timeout == FOREVER and not self.may_wait(selector, at) else timeout)
+
+    def choose_semaphore(self):
+        self.ask_any(*self.target(4))
 
     def choose_size(self):
         selector, (other, at) = self.any([*self.made(), DATA, TEXTS, ENVIRONMENT]), self.target(4)
@@ -547,7 +589,8 @@ class Sharer(Process):
     # What is chosen.
 
     def choices(self):
-        shares = [self.choose_name, self.choose_named, self.choose_give, self.choose_get, self.choose_probe, self.choose_post, self.choose_look]
+        shares = [self.choose_name, self.choose_named, self.choose_give, self.choose_get, self.choose_probe, self.choose_post, self.choose_look,
+                  self.choose_semaphore]
         return [*super().choices(), *shares, *shares, self.choose_free, self.choose_let_go, self.choose_let_go, self.choose_copy]
 
     def new_flags(self):
@@ -621,6 +664,31 @@ class Sharer(Process):
             other, to = self.target(2)
             self.call(4, lambda: self.write(selector, 0, count, other, to), 1, selector, 0, count, other, to)
 
+    def may_wait(self, selector, at):
+        return super().may_wait(selector, at) or bool(self.under(selector)) and selector >> 3 >= SHARED
+
+    def awaited(self):
+        """The semaphores for which others wait, of what this process holds too."""
+        waits = [it.waits for it in self.machine.modules if it.live and it.waits]
+        return [(8 * index + 7, at) for index, hold in self.held.items() for segment, at in waits if hold.segment is segment]
+
+    def choose_semaphore(self):
+        """Mostly clears one for which another process waits."""
+        awaited, (selector, count) = self.awaited(), self.front()
+        if awaited and self.dice.random() < 0.7:
+            self.ask(CLEAR, *self.dice.choice(awaited))
+        elif selector and count >= 4:
+            self.ask_any(selector, self.dice.randrange(count - 3))
+        else:
+            super().choose_semaphore()
+
+    def choose(self):
+        """At the end, too: nobody is left waiting where that can be helped."""
+        if self.actions < 1 and self.awaited():
+            self.ask(CLEAR, *self.dice.choice(self.awaited()))
+        else:
+            super().choose()
+
     def choose_let_go(self):
         """Frees what DS or ES names, and writes to the console what the register has then."""
         (register, text), at, (other, to) = self.dice.choice([("ds", "8CD9"), ("es", "8CC1")]), self.dice.randrange(FRONT - 1), self.target(2)
@@ -662,6 +730,7 @@ class Callers:
         self.opening = [line for it in self.modules for line in it.start()]
         self.told, self.standing = len(self.opening), self.stand()
         steps = list(self.turns())
+        self.over, self.budget = ("budget spent\n", len(steps)) if self.is_stuck() else ("all ended\n", 1000000)
         for it in self.modules:
             it.whole_code = max(len(it.code), dice.choice([0, 1000, 20000]))
         code = {it.pid: whole(it.whole_code) for it in self.modules}
@@ -706,9 +775,14 @@ class Callers:
         """How often each process that lives holds what."""
         return {(it.pid, 8 * index + 7): hold.count for it in self.modules for index, hold in it.held.items()}
 
+    def is_stuck(self):
+        """Whether all that live wait, each for a semaphore that isn't clear."""
+        living = [it for it in self.modules if it.live]
+        return bool(living) and all(it.waits and any(it.waits[0].bytes[it.waits[1] : it.waits[1] + 4]) for it in living)
+
     def turns(self):
         """Each step: its process, who lives, and without the code its room, lines, piece, and the loads of it."""
-        while any(it.live for it in self.modules):
+        while any(it.live for it in self.modules) and not self.is_stuck():
             for it in [it for it in self.modules if it.live]:
                 for _ in range(self.quantum):
                     if not it.live:
@@ -734,6 +808,6 @@ class Callers:
         return it.pid, live, room, it.lines, it.piece, load, blocks
 
     def text(self, memory, swap):
-        keys = f"memory = {memory}\nswap = {swap}\nsegments = {self.segments}\nbudget = 1000000\nquantum = {self.quantum}\n"
+        keys = f"memory = {memory}\nswap = {swap}\nsegments = {self.segments}\nbudget = {self.budget}\nquantum = {self.quantum}\n"
         modules = ", ".join(f'"{it.name}.exe"' for it in self.modules)
         return keys + f"modules = [{modules}]\n" + "".join(f'[[process]]\nmodule = "{it.name}"\n' for it in self.modules)

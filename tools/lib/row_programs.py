@@ -12,7 +12,9 @@ HEADINGS = (
     "calls on segments",
     "calls on heaps inside a segment",
     "calls by which processes share segments",
+    "calls on semaphores",
     "calls on huge allocations",
+    "each argument of each call is refused",
     "memories that are too small, or just large enough",
 )
 EXE = "segments = 1024\nbudget = 1000000\nquantum = 1000\navail = 524288\n"

@@ -10,7 +10,7 @@ import subprocess
 
 import heaps
 import trying
-from try_replay import GATES, ORDINALS, STRINGS, entries_of, is_alike, patch, string_at, told, words_at
+from try_replay import GATES, ORDINALS, SEMAPHORES, STRINGS, entries_of, is_alike, patch, string_at, told, words_at
 from try_vectors import NAMES
 
 STEP = re.compile(r"(\d+) ([0-9A-F]{4}):([0-9A-F]{4}) ([0-9A-F]*) +(.*?)((?: (?:[ABCD]X|[SD]I|[BS]P|[CDES]S|IP|F)=[0-9A-F]{4})*)$")
@@ -227,7 +227,10 @@ class Written:
             if not heaps.called(data, name, numbers[1:], given):
                 raise Astray(f"{name} {words} = {values}, where the segment's bytes say something else")
             self.put(segment, 0, bytes(data))
-        if pointers:
+        if name in SEMAPHORES:
+            selector, at = pointers[0]
+            self.put(held[selector | 3][0], at, struct.pack("<I", pid if name == "DosSemRequest" else SEMAPHORES[name]))
+        elif pointers:
             selector, at = pointers[-1]
             form = "<I" if name in ("DosMemAvail", "DosSizeSeg") else f"<{len(given)}H"
             self.put(held[selector | 3][0], at, struct.pack(form, *given))
@@ -304,6 +307,8 @@ class Written:
         regs, code = process.regs, bytes.fromhex(found[4])
         if (int(found[2], 16), int(found[3], 16)) != (regs["cs"], regs["ip"]) or self.get(process.held[regs["cs"] | 3][0], regs["ip"], len(code)) != code:
             raise Astray(f"{line!r}, where {regs['cs']:04X}:{regs['ip']:04X} is next, and other bytes may stand there")
+        if line.endswith(" waits"):
+            return
         faults = [it for it in behind if it.startswith("! ")]
         is_call = any(re.match(rf"\| {found[1]} call ", it) for it in behind)
         if not is_call and all(it.endswith("behind the step") for it in faults):
