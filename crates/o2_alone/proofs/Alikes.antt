@@ -15,7 +15,7 @@ use Rattle.o2_world.specs.Map.{get}
 use Rattle.o2_world.specs.World.{World, Setting, Process, Segment, Held}
 use Rattle.o2_world.specs.Sound.{held_of}
 use Rattle.o2_world.specs.Tied.{IsTied, lives_in}
-use Rattle.o2_world.specs.Views.{hold_of, holds_in, bytes_in, segment_bytes, view_of}
+use Rattle.o2_world.specs.Views.{hold_of, holds_in, bytes_in, is_discarded, segment_bytes, view_of}
 use Rattle.o2_world.specs.Known.{known_of, held_at, holds_index, marks_of, reserves, taken_in}
 use Rattle.o2_world.specs.CallParts.{Before, argument, has_arguments}
 use Rattle.o2_world.specs.Slots.{are_good, pointers_in, words_in}
@@ -199,7 +199,7 @@ module _ (s : Setting) (f : Renaming) (number : ℕ) (w a : World) (like : IsLik
     bound = λ r. registers_held (holds_in p.held) p.cpu r;
     size = λ (h : Hold) there. ap (λ (bs : List ℕ). length bs) (same_bytes h there);
     present = λ h there. refl;
-    discarded = λ h there. refl;
+    discarded = λ h there. ap (λ (o : Option Segment). is_discarded o) (same_segment h there);
     bytes = same_bytes;
     apart = same_apart;
   }

@@ -10,7 +10,7 @@ use Rattle.o2_world.specs.World.{ByCall, Held, is_live}
 use Rattle.o2_world.specs.Changes.{Change, Makes, Resizes, Locks, Marks, Holds, Drops, Finishes, Reserves, Frees, Names}
 use Rattle.o2_world.specs.declared.types.Slot.{Slot}
 use Rattle.o2_world.specs.CallParts.{Before, Effect}
-use Rattle.o2_world.specs.Rulings.{Ruling, free_index, held_by_call, held_under, in_use, is_discardable, is_in_run, is_later, members, refusal}
+use Rattle.o2_world.specs.Rulings.{Ruling, free_index, held_by_call, held_under, in_use, is_in_run, is_later, members, refusal}
 use Rattle.o2_world.specs.SharedNames.{name_by, text_at}
 use Rattle.o2_world.specs.SharedRulings.{shared_from, each_more, getting, getting_at, getting_from, giving_of, holder, index_of, lacks_flag, naming, naming_at, one_more, sharing, sharing_at, sharing_from, sharing_of}
 use Rattle.o2_world.specs.HugeRulings.{all_bytes, all_hold, bytes_of, dropped_members, flags_in, held_in_run, huge_reallocation_of, is_first, left_in_run, new_members, other_shares, resized_members, run_changes, run_resized, segments_of, sizes_of}
@@ -23,13 +23,13 @@ use Rattle.o2_world.proofs.Serving.{by_service}
 use Rattle.o2_alone.specs.Renaming.{Asking}
 use Rattle.o2_world.specs.Effect.{has_trap_flag, answered, single_stepped, effect}
 use Rattle.o2_alone.proofs.OwnNames.{AreOfOwn, IsGoodAlias, IsOfOwn, IsOwnName, IsOwnRuling, RunsMayChange, aliasing_is, allocation_is, avail_is, dropped_own, freeing_is, huge_allocation_is}
-use Rattle.o2_alone.proofs.OwnNames.{locking_is, may_change, members_may, no_alias, reallocation_is, shift_is, sizes_own, sizing_is, unlocking_is}
+use Rattle.o2_alone.proofs.OwnNames.{locking_is, may_change, may_lock, members_may, no_alias, reallocation_is, shift_is, sizes_own, sizing_is, unlocking_is}
 
 abbrev pub IsOfAny : Before → Change → Type 0
 IsOfAny b (Makes s) = s.clean ≡ false
 IsOfAny b (Resizes n size) = IsOwnName b may_change n
-IsOfAny b (Locks n count) = IsOwnName b is_discardable n
-IsOfAny b (Marks n discarded) = ⊥
+IsOfAny b (Locks n count) = IsOwnName b may_lock n
+IsOfAny b (Marks n discarded) = IsOwnName b may_change n
 IsOfAny b (Holds p i h) = IsGoodAlias b h
 IsOfAny b (Drops p i count) = Unit {0}
 IsOfAny b (Finishes p state) = Unit {0}

@@ -4,8 +4,8 @@ use Rattle.std.specs.Prelude.{Option, Some, None, option_map, slice_get, not, na
 use Rattle.std.specs.List.{list_any}
 use Rattle.std.proofs.lemmas.Bool.{eq-eqb, eqb-true}
 use Rattle.o2_conf.specs.declared.script.Word.{Word}
-use Rattle.o2_conf.specs.declared.script.Word.TheVariants.{Slice}
-use Rattle.o2_conf.specs.Dispatch.{Dispatch, counted, dispatched, live_script, lives, started}
+use Rattle.o2_conf.specs.declared.script.Word.TheVariants.{Slice, Discard}
+use Rattle.o2_conf.specs.Dispatch.{Dispatch, counted, dispatched, goes_on as goes_further, live_script, lives, started, words_before}
 use Rattle.o2_isa.specs.declared.cpu.Cpu.{Cpu}
 use Rattle.o2_world.specs.declared.types.State.{State}
 use Rattle.o2_world.specs.declared.types.State.TheVariants.{Live}
@@ -18,8 +18,9 @@ use Rattle.o2_world.specs.Known.{held_at, lives_at}
 use Rattle.o2_world.specs.CallParts.{Before, Effect}
 use Rattle.o2_world.specs.Effect.{effect}
 use Rattle.o2_world.specs.Moves.{AreSpared}
-use Rattle.o2_world.specs.Run.{acted, after, all_changes, any_lives, before, changed, is_over, live_flags, next_dispatch, step, worked}
-use Rattle.o2_world.proofs.Budget.{not_over, step_runs}
+use Rattle.o2_world.specs.Run.{acted, after, all_changes, any_lives, before, changed, chosen_step, is_over, live_flags, next_dispatch, ready, step, words_coming, worked}
+use Rattle.o2_world.proofs.Budget.{not_over}
+use Rattle.o2_world.proofs.Words.{ready_at_once, step_runs}
 use Rattle.o2_world.proofs.Keeps.{over_stays, some_is}
 use Rattle.o2_world.proofs.MapLemmas.{if_no, if_yes}
 use Rattle.o2_world.proofs.Numbers.{number_some, at_place_of}
@@ -42,6 +43,7 @@ use Rattle.o2_alone.proofs.RenamedSteps.{effect_renamed}
 started_budget : (quantum : ℕ) (flags : List Bool) (d : Dispatch) (ws : List Word) → (started quantum flags d ws).budget ≡ d.budget
 started_budget quantum flags d [] = refl
 started_budget quantum flags d (Slice process count ∷ ws) = refl
+started_budget quantum flags d (Discard ∷ ws) = refl
 
 dispatched_budget : (quantum : ℕ) (flags : List Bool) (d : Dispatch) → (dispatched quantum flags d).budget ≡ d.budget
 dispatched_budget quantum flags d = go (nat_lt 0 d.left && lives flags d.current)
@@ -58,26 +60,27 @@ no_script quantum flags d none = go (nat_lt 0 d.left && lives flags d.current)
     go false = ap (λ (ws : List Word). (started quantum flags d (live_script flags ws)).script) none
 
 -- the step of the process that is chosen
-pub step_is : (s : Setting) (w : World) (p : Process) → is_over w ≡ false → process_at w.processes (next_dispatch s w).current ≡ Some p
+pub step_is : (s : Setting) (w : World) (p : Process) → is_over w ≡ false → words_coming w ≡ 0 → process_at w.processes (next_dispatch s w).current ≡ Some p
     → step s w ≡ changed w (next_dispatch s w) p (effect (before s w (next_dispatch s w).current p))
-step_is s w p runs at = step_runs s w runs ∙ ap (acted s w (next_dispatch s w)) at
+step_is s w p runs wordless at = step_runs s w runs ∙ (ap (chosen_step s) (ready_at_once w wordless) ∙ ap (acted s w (next_dispatch s w)) at)
 
-next_is : (s : Setting) (w : World) (p : Process) → is_over w ≡ false → process_at w.processes (next_dispatch s w).current ≡ Some p
+next_is : (s : Setting) (w : World) (p : Process) → is_over w ≡ false → words_coming w ≡ 0 → process_at w.processes (next_dispatch s w).current ≡ Some p
     → next_before s w ≡ Some (before s w (next_dispatch s w).current p)
-next_is s w p runs at =
-    if_no (is_over w) None (chosen_before s w (next_dispatch s w)) runs ∙ ap (option_map (before s w (next_dispatch s w).current)) at
+next_is s w p runs wordless at =
+    if_no (is_over w) None (chosen_before s (ready w) (next_dispatch s w)) runs
+    ∙ (ap (λ (v : World). chosen_before s v (next_dispatch s w)) (ready_at_once w wordless)) ∙ ap (option_map (before s w (next_dispatch s w).current)) at
 
-step_dispatch : (s : Setting) (w : World) (p : Process) → is_over w ≡ false → process_at w.processes (next_dispatch s w).current ≡ Some p
+step_dispatch : (s : Setting) (w : World) (p : Process) → is_over w ≡ false → words_coming w ≡ 0 → process_at w.processes (next_dispatch s w).current ≡ Some p
     → (step s w).dispatch ≡ counted (next_dispatch s w)
 unfolding changed
-step_dispatch s w p runs at =
-    ap (λ (v : World). v.dispatch) (step_is s w p runs at)
+step_dispatch s w p runs wordless at =
+    ap (λ (v : World). v.dispatch) (step_is s w p runs wordless at)
     ∙ (let d = next_dispatch s w in let e = effect (before s w d.current p) in all_dispatch (worked w d p e) (all_changes d.current e))
 
-step_budget : (s : Setting) (w : World) (p : Process) → is_over w ≡ false → process_at w.processes (next_dispatch s w).current ≡ Some p
+step_budget : (s : Setting) (w : World) (p : Process) → is_over w ≡ false → words_coming w ≡ 0 → process_at w.processes (next_dispatch s w).current ≡ Some p
     → (step s w).dispatch.budget ≡ w.dispatch.budget - 1
-step_budget s w p runs at =
-    ap (λ (d : Dispatch). d.budget) (step_dispatch s w p runs at) ∙ ap (λ (n : ℕ). n - 1) (dispatched_budget s.quantum (live_flags w.processes) w.dispatch)
+step_budget s w p runs wordless at =
+    ap (λ (d : Dispatch). d.budget) (step_dispatch s w p runs wordless at) ∙ ap (λ (n : ℕ). n - 1) (dispatched_budget s.quantum (live_flags w.processes) w.dispatch)
 
 -- The run of one alone.
 
@@ -117,6 +120,17 @@ next_alone s number u q alone at live some = record { runs = runs; current = by_
         let dead = alone.others (c.current - 1) (λ same. absurd (let no : true ≡ false = sym (eq-eqb c.current number (sym past ∙ same)) ∙ is in cc)) in
         absurd (let no : true ≡ false = sym (ap is_live here.2) ∙ (sym (ap lives_at at_place) ∙ dead) in cc)
 
+-- no word comes in a run without a script
+no_words : (number : ℕ) (u : World) → IsAlone number u → words_coming u ≡ 0
+no_words number u alone =
+    ap (λ (ws : List Word). cond (is_over u) 0 (cond (goes_further (live_flags u.processes) u.dispatch) 0 (words_before (live_flags u.processes) ws))) alone.script
+    ∙ none (is_over u) (goes_further (live_flags u.processes) u.dispatch)
+  where
+    none : (a b : Bool) → ◌≡◌ {A = ℕ} (cond a 0 (cond b 0 0)) 0
+    none true b = refl
+    none false true = refl
+    none false false = refl
+
 -- a process that is as it was but for what it holds lives where it lived
 lives_spared : (o p : Option Process) → AreSpared o p → lives_at p ≡ lives_at o
 lives_spared None None spared = refl
@@ -124,10 +138,10 @@ lives_spared None (Some y) spared = absurd spared
 lives_spared (Some x) None spared = absurd spared
 lives_spared (Some x) (Some y) spared = ap (λ (z : Process). is_live z.state) spared.all_else
 
-still_alone : (s : Setting) (number : ℕ) (u : World) (q : Process) → is_over u ≡ false → process_at u.processes (next_dispatch s u).current ≡ Some q → (next_dispatch s u).current ≡ number
+still_alone : (s : Setting) (number : ℕ) (u : World) (q : Process) → is_over u ≡ false → words_coming u ≡ 0 → process_at u.processes (next_dispatch s u).current ≡ Some q → (next_dispatch s u).current ≡ number
     → IsAlone number u → IsAlone number (step s u)
-still_alone s number u q runs at current alone = record {
-  script = ap (λ (d : Dispatch). d.script) (step_dispatch s u q runs at) ∙ no_script s.quantum (live_flags u.processes) u.dispatch alone.script;
+still_alone s number u q runs wordless at current alone = record {
+  script = ap (λ (d : Dispatch). d.script) (step_dispatch s u q runs wordless at) ∙ no_script s.quantum (live_flags u.processes) u.dispatch alone.script;
   others = λ (place : ℕ) other.
       lives_spared (slice_get u.processes place) (slice_get (step s u).processes place) (step_spared s u place (λ same. other (same ∙ current)))
       ∙ alone.others place other;
@@ -168,7 +182,7 @@ pub data Moved (s : Setting) (number : ℕ) (v u : World) : Type 0 where
   -- it is, and the next one of its run alone is the same
   Goes : (x : Event) → events_of number (event_list (next_before s v)) ≡ x ∷ [] → event_list (next_before s u) ≡ x ∷ [] → BeginsAlike number (step s v) (step s u) → Moved s number v u
 
-module _ (s : Setting) (number : ℕ) (v u : World) (alike : BeginsAlike number v u) (apart : IsApart v number) (ungiven : IsUngiven s v number) (quiet : IsQuiet s v number) (room : HasRoom s v number)
+module _ (s : Setting) (number : ℕ) (v u : World) (alike : BeginsAlike number v u) (wordless : words_coming v ≡ 0) (apart : IsApart v number) (ungiven : IsUngiven s v number) (quiet : IsQuiet s v number) (room : HasRoom s v number)
     (room_alone : (x : Event) → events_of number (event_list (next_before s v)) ≡ x ∷ [] → HasRoom s u number) where
   abbrev d : Dispatch
   d = next_dispatch s v
@@ -190,16 +204,16 @@ module _ (s : Setting) (number : ℕ) (v u : World) (alike : BeginsAlike number 
 
   other_moves : is_over v ≡ false → (r : Process) → process_at v.processes d.current ≡ Some r → (d.current == number) ≡ false → Moved s number v u
   other_moves runs r at other =
-      Stays (ap (λ (o : Option Before). events_of number (event_list o)) (next_is s v r runs at) ∙ not_own number (event_of (before s v d.current r)) other) (record {
+      Stays (ap (λ (o : Option Before). events_of number (event_list o)) (next_is s v r runs wordless at) ∙ not_own number (event_of (before s v d.current r)) other) (record {
         names = alike.names;
-        like = subst (λ (z : World). IsLike alike.names number z u) (sym (step_is s v r runs at))
-            (other_step s v alike.sound.tied alike.fixed d r at (may d.current r) alike.names number u alike.sound_alone.tied alike.like alike.sound.swept.used apart away (ungiven (before s v d.current r) (next_is s v r runs at) away));
+        like = subst (λ (z : World). IsLike alike.names number z u) (sym (step_is s v r runs wordless at))
+            (other_step s v alike.sound.tied alike.fixed d r at (may d.current r) alike.names number u alike.sound_alone.tied alike.like alike.sound.swept.used apart away (ungiven (before s v d.current r) (next_is s v r runs wordless at) away));
         sound = step_sound s v alike.sound;
         sound_alone = alike.sound_alone;
-        fixed = subst (λ (z : World). AreFixed z.names) (sym (step_is s v r runs at)) (fixed_step s v d r (may d.current r) alike.fixed);
-        loads = subst AreLoadsApart (sym (step_is s v r runs at)) (apart_step s v d r at alike.sound.tied alike.loads);
+        fixed = subst (λ (z : World). AreFixed z.names) (sym (step_is s v r runs wordless at)) (fixed_step s v d r (may d.current r) alike.fixed);
+        loads = subst AreLoadsApart (sym (step_is s v r runs wordless at)) (apart_step s v d r at alike.sound.tied alike.loads);
         is_alone = alike.is_alone;
-        budget = let less = step_budget s v r runs at in let most = alike.budget in omega (arith, less, most);
+        budget = let less = step_budget s v r runs wordless at in let most = alike.budget in omega (arith, less, most);
       })
     where
       away : d.current ≢ number
@@ -210,6 +224,9 @@ module _ (s : Setting) (number : ℕ) (v u : World) (alike : BeginsAlike number 
     where
       some : 0 < v.dispatch.budget
       some = (not_over (any_lives v.processes) v.dispatch.budget runs).1
+
+      none : words_coming u ≡ 0
+      none = no_words number u alike.is_alone
 
       next : NextAlone s number u q
       next = next_alone s number u q alike.is_alone far.like.there_too (far.like.state ∙ live) (let most = alike.budget in omega (arith, most, some))
@@ -227,10 +244,10 @@ module _ (s : Setting) (number : ℕ) (v u : World) (alike : BeginsAlike number 
       two = before s u number q
 
       next_one : next_before s v ≡ Some one
-      next_one = next_is s v p runs at ∙ ap (λ (n : ℕ). Some (before s v n p)) current
+      next_one = next_is s v p runs wordless at ∙ ap (λ (n : ℕ). Some (before s v n p)) current
 
       next_two : next_before s u ≡ Some two
-      next_two = next_is s u q next.runs at_alone ∙ ap (λ (n : ℕ). Some (before s u n q)) next.current
+      next_two = next_is s u q next.runs none at_alone ∙ ap (λ (n : ℕ). Some (before s u n q)) next.current
 
       one_event : events_of number (event_list (next_before s v)) ≡ event_of one ∷ []
       one_event = ap (λ (o : Option Before). events_of number (event_list o)) next_one ∙ only_own number (event_of one) refl
@@ -252,15 +269,15 @@ module _ (s : Setting) (number : ℕ) (v u : World) (alike : BeginsAlike number 
       begins : BeginsAlike number (step s v) (step s u)
       begins = record {
         names = g;
-        like = subst (λ (z : World). IsLike g number z (step s u)) (sym (step_is s v p runs at))
-            (subst (λ (z : World). IsLike g number (changed v d p (effect (before s v d.current p))) z) (sym (step_is s u q next.runs at_alone))
+        like = subst (λ (z : World). IsLike g number z (step s u)) (sym (step_is s v p runs wordless at))
+            (subst (λ (z : World). IsLike g number (changed v d p (effect (before s v d.current p))) z) (sym (step_is s u q next.runs none at_alone))
             (own_step s number v u far alike.sound.tied alike.sound_alone.tied d c current next.current renamed (quiet_unshared one (call_of one) (quiet one next_one refl)) (may number p)));
         sound = step_sound s v alike.sound;
         sound_alone = step_sound s u alike.sound_alone;
-        fixed = subst (λ (z : World). AreFixed z.names) (sym (step_is s v p runs at)) (fixed_step s v d p (may d.current p) alike.fixed);
-        loads = subst AreLoadsApart (sym (step_is s v p runs at)) (apart_step s v d p at alike.sound.tied alike.loads);
-        is_alone = still_alone s number u q next.runs at_alone next.current alike.is_alone;
-        budget = let less = step_budget s v p runs at in let few = step_budget s u q next.runs at_alone in let most = alike.budget in omega (arith, less, few, most);
+        fixed = subst (λ (z : World). AreFixed z.names) (sym (step_is s v p runs wordless at)) (fixed_step s v d p (may d.current p) alike.fixed);
+        loads = subst AreLoadsApart (sym (step_is s v p runs wordless at)) (apart_step s v d p at alike.sound.tied alike.loads);
+        is_alone = still_alone s number u q next.runs none at_alone next.current alike.is_alone;
+        budget = let less = step_budget s v p runs wordless at in let few = step_budget s u q next.runs none at_alone in let most = alike.budget in omega (arith, less, few, most);
       }
 
   pub moves : Moved s number v u
@@ -276,7 +293,7 @@ module _ (s : Setting) (number : ℕ) (v u : World) (alike : BeginsAlike number 
 
       by_end : (b : Bool) → is_over v ≡ b → Moved s number v u
       by_end true over =
-          Stays (ap (λ (o : Option Before). events_of number (event_list o)) (if_yes (is_over v) None (chosen_before s v d) over))
+          Stays (ap (λ (o : Option Before). events_of number (event_list o)) (if_yes (is_over v) None (chosen_before s (ready v) d) over))
           (subst (λ (z : World). BeginsAlike number z u) (sym (over_stays s v over)) alike)
       by_end false runs = by_number runs (d.current == number) refl
 
@@ -311,6 +328,7 @@ module _ (s : Setting) (w alone : World) (number : ℕ) (alike : BeginsAlike num
 
   shorter : (k : ℕ) → own k ≤ own (suc k) → KeepsToItself s w alone number (suc k) → KeepsToItself s w alone number k
   shorter k few keeps = record {
+    wordless = λ j low. keeps.wordless j (omega (arith, low));
     apart = λ j low. keeps.apart j (omega (arith, low));
     ungiven = λ j low. keeps.ungiven j (omega (arith, low));
     quiet = λ j low. keeps.quiet j (omega (arith, low));
@@ -354,7 +372,7 @@ module _ (s : Setting) (w alone : World) (number : ℕ) (alike : BeginsAlike num
   follows (suc k) keeps =
       let so_far = follows k (shorter k (never_fewer k) keeps) in
       next_follows k so_far
-      (moves s number (after s w k) (after s alone (own k)) so_far.begins (keeps.apart k (omega arith)) (keeps.ungiven k (omega arith)) (keeps.quiet k (omega arith)) (keeps.room k (omega arith))
+      (moves s number (after s w k) (after s alone (own k)) so_far.begins (keeps.wordless k (omega arith)) (keeps.apart k (omega arith)) (keeps.ungiven k (omega arith)) (keeps.quiet k (omega arith)) (keeps.room k (omega arith))
       (λ x one. keeps.room_alone (own k) (let more = count_next k (x ∷ []) one ∙ one_more (events_of number (events s w k)) x in omega (arith, more))))
 
 -- what is alike is the same but for the numbers of names

@@ -14,7 +14,7 @@ use Rattle.o2_world.specs.Sound.{held_in, held_of}
 use Rattle.o2_world.specs.Tied.{IsTied}
 use Rattle.o2_world.specs.Known.{Known, Marks as SegmentMarks, held_at, holds_index, known_of, marks_of, reserves, taken_in}
 use Rattle.o2_world.specs.CallParts.{Before, Effect}
-use Rattle.o2_world.specs.Changes.{Change, Makes, Resizes, Locks, Marks, Holds, Drops, Finishes, Reserves, Frees, Names, fewer, more, resized, swept, takes, with_change, with_changes}
+use Rattle.o2_world.specs.Changes.{Change, Makes, Resizes, Locks, Marks, Holds, Drops, Finishes, Reserves, Frees, Names, fewer, marked, more, resized, swept, takes, with_change, with_changes}
 use Rattle.o2_world.specs.Rulings.{Ruling, by_load, full_size, held_as_code, held_under, in_use, indexes, is_in_run, members, region_by}
 use Rattle.o2_world.specs.SharedRulings.{marks_under, shared_from}
 use Rattle.o2_world.specs.HugeRulings.{all_bytes, all_dropped, all_hold, bytes_of, dropped_members, flags_in, free_run, held_in_run, huge_allocation, huge_at}
@@ -22,7 +22,7 @@ use Rattle.o2_world.specs.HugeRulings.{huge_reallocation, huge_reallocation_of, 
 use Rattle.o2_world.specs.HugeRulings.{resized_members, resized_one, run_changes, run_resized, segments_of, sizes_of}
 use Rattle.o2_world.specs.Effect.{effect}
 use Rattle.o2_world.specs.Run.{all_changes, before, changed, worked, working}
-use Rattle.o2_world.specs.Moves.{AllMoves, AreOfRuling, Each, IsShared, Moves, NoneMoves, OfAllocation, OfNone, OfReallocation, OneAliased, OneLocked, OneMade, OneNamed, OneRun, OneSized, OwnMoves, SomeFreed, SomeShared}
+use Rattle.o2_world.specs.Moves.{AllMoves, AreOfRuling, Each, IsShared, Moves, NoneMoves, OfAllocation, OfNone, OfReallocation, OneAliased, OneLocked, OneMade, OneNamed, OneRemade, OneRun, OneSized, OwnMoves, SomeFreed, SomeShared}
 use Rattle.o2_world.proofs.ByNumber.{IsOf, from_number}
 use Rattle.o2_world.proofs.FitShares.{changes_are, held_each, share, shares_of}
 use Rattle.o2_world.proofs.HugeMoves.{above_zero, at_most, chosen_run}
@@ -369,7 +369,8 @@ module _ (s : Setting) (w : World) (n : ℕ) (p : Process) (at : process_at w.pr
   moves_good cpu cs any (NoneMoves is) = subst (AreGoodChanges w) (sym is) tt
   moves_good cpu cs any (OneMade size flags i free is) = subst (AreGoodChanges w) (sym is) (refl, (alone_good i _ refl (new_name w.next_name (omega arith)) refl, tt))
   moves_good cpu cs any (OneSized name size alone is) = subst (AreGoodChanges w) (sym is) (tt, tt)
-  moves_good cpu cs any (OneLocked name count is) = subst (AreGoodChanges w) (sym is) (tt, tt)
+  moves_good cpu cs any (OneRemade name size alone is) = subst (AreGoodChanges w) (sym is) (tt, (tt, (tt, tt)))
+  moves_good cpu cs any (OneLocked name count lockable is) = subst (AreGoodChanges w) (sym is) (tt, tt)
   moves_good cpu cs any (OneAliased index i held there alone free is) =
       subst (AreGoodChanges w) (sym is) (alias_good i (held_as_code held.name) refl refl (subst (AreOfAny b) is any).0 refl, tt)
   moves_good cpu cs any (SomeFreed xs frees is) = subst (AreGoodChanges w) (sym is) (drops_good xs)
@@ -472,6 +473,10 @@ module _ (w : World) where
       pick true f None there is = absurd (none_some h is)
       pick true f (Some g) there is = left g (old i g (ap (get o.process.held) (sym (eqb-true j i f)) ∙ there)) (nat_lt count g.holds) is
 
+  marked_clean : (d : Bool) (x : Segment) → (marked d x).clean ≡ x.clean
+  marked_clean true x = refl
+  marked_clean false x = refl
+
   kept_change : (c : Change) (u : World) → IsGoodChange w c → Kept u → Kept (with_change u c)
   kept_change (Makes s) u good kept = record {
     each = kept.each;
@@ -479,7 +484,7 @@ module _ (w : World) where
   }
   kept_change (Resizes n size) u good kept = record { each = kept.each; names = key_kept u n (λ (s : Segment). record s { bytes = resized size s.bytes }) (λ x. refl) kept }
   kept_change (Locks n count) u good kept = record { each = kept.each; names = key_kept u n (λ (s : Segment). record s { lock = count }) (λ x. refl) kept }
-  kept_change (Marks n discarded) u good kept = record { each = kept.each; names = key_kept u n (λ (s : Segment). record s { discarded = discarded }) (λ x. refl) kept }
+  kept_change (Marks n discarded) u good kept = record { each = kept.each; names = key_kept u n (marked discarded) (marked_clean discarded) kept }
   kept_change (Holds p j x) u good kept = record { each = λ n i h is. by n i h (from_number u.processes p n i (λ (y : Process). record y { held = put j (more x (get y.held j)) y.held }) h is); names = kept.names }
     where
       by : (n i : ℕ) (h : Held) → (held_at u.processes n i ≡ Some h) ⊎ IsOf u.processes p n i (λ (y : Process). record y { held = put j (more x (get y.held j)) y.held }) h → IsKept w n i h

@@ -23,7 +23,7 @@ use Rattle.o2_world.specs.Tied.{AreLive, AreUsed, IsSound, IsTied}
 use Rattle.o2_world.proofs.OpeningLoads.{opening_loads}
 use Rattle.o2_world.proofs.Keeps.{held_found, some_is}
 use Rattle.o2_world.proofs.Numbers.{at_place_of, process_is}
-use Rattle.o2_world.proofs.Openings.{opening_sound}
+use Rattle.o2_world.proofs.Openings.{opening_sound, opening_whole}
 use Rattle.o2_world.proofs.OpeningSound.{IsFitProgram, all_so_far, apart as starts_apart, free_at_first, opened}
 use Rattle.o2_alone.specs.Renaming.{Renaming, renamed_held}
 use Rattle.o2_alone.specs.Alone.{before_it, ended, opening_alone}
@@ -302,7 +302,8 @@ pub record HasOnly (f : Renaming) (number : ℕ) (p : Process) (a : World) : Typ
   texts : a.texts ≡ []
   used : AreUsed a.processes a.reserved
 
-module _ (f : Renaming) (number : ℕ) (w a : World) (like : IsLike f number w a) (sound : IsSound w) (live : is_live like.process.state ≡ true) (only : HasOnly f number like.process a) where
+module _ (f : Renaming) (number : ℕ) (w a : World) (like : IsLike f number w a) (sound : IsSound w) (live : is_live like.process.state ≡ true) (only : HasOnly f number like.process a)
+    (whole : (n : ℕ) (z : Segment) → get w.names n ≡ Some z → z.discarded ≡ false) where
   abbrev p : Process
   p = like.process
 
@@ -386,6 +387,12 @@ module _ (f : Renaming) (number : ℕ) (w a : World) (like : IsLike f number w a
           (held_found a.processes (number - 1) m.1.index (renamed_held f m.1.hold)
           (ap (λ (o : Option Process). held_of o m.1.index) at_a ∙ (like.held m.1.index ∙ ap (option_map (renamed_held f)) m.1.there)));
       used = only.used;
+    };
+    discarded = record {
+      each = λ n z e gone.
+          let m = only.named n (ap (λ (o : Option Segment). is_some o) e) in
+          let there = sym (like.segment m.1.index m.1.hold m.1.there) ∙ (ap (λ (n : ℕ). get a.names n) (ap f m.1.named ∙ m.2) ∙ e) in
+          absurd (let no : true ≡ false = sym gone ∙ whole m.1.hold.name z there in cc);
     };
   }
 
@@ -533,7 +540,7 @@ isolation modules s reserved script input starts w apart fit of over e number st
       names = st.alike.names;
       like = like;
       sound = sound;
-      sound_alone = sound_too st.alike.names number w alone like sound refl only;
+      sound_alone = sound_too st.alike.names number w alone like sound refl only (opening_whole modules s reserved script input starts w of e);
       fixed = opened_fixed s reserved script input starts w e;
       loads = opened_apart s reserved script input starts w e;
       is_alone = record { script = refl; others = λ place other. dead place other (slice_get alone.processes place) refl };

@@ -1,5 +1,5 @@
 -- A step of another process that gives it nothing leaves a process that keeps to itself as it is. And behind each step what never changes isn't discardable.
-use Rattle.std.proofs.Common.{◌≡◌, ◌≢◌, ◌⊎◌, inl, inr, refl, sym, ◌∙◌, ap, subst, ℕ, ◌+◌, ◌-◌, ◌<◌, ◌==◌, Bool, true, false, cond, List, [], ◌∷◌, ◌++◌, arith}
+use Rattle.std.proofs.Common.{◌≡◌, ◌≢◌, ◌⊎◌, inl, inr, refl, sym, ◌∙◌, ap, subst, ℕ, ◌+◌, ◌-◌, ◌<◌, ◌==◌, ◌||◌, Bool, true, false, cond, List, [], ◌∷◌, ◌++◌, arith}
 use Rattle.std.specs.Prelude.{Option, Some, None, option_map, is_some, slice_get, not}
 use Rattle.std.specs.List.{list_any}
 use Rattle.std.proofs.lemmas.Bool.{eqb-true}
@@ -16,8 +16,7 @@ use Rattle.o2_world.specs.Tied.{AreUsed, IsTied}
 use Rattle.o2_world.specs.Views.{hold_of, holds_in, segment_bytes, with_bytes}
 use Rattle.o2_world.specs.Known.{Marks as SegmentMarks, held_at, marks_of}
 use Rattle.o2_world.specs.CallParts.{Before, Effect}
-use Rattle.o2_world.specs.Rulings.{is_discardable}
-use Rattle.o2_world.specs.Changes.{Change, Makes, Resizes, Locks, Marks, Holds, Drops, Finishes, Reserves, Frees, Names, resized, swept, takes, with_change, with_changes}
+use Rattle.o2_world.specs.Changes.{Change, Makes, Resizes, Locks, Marks, Holds, Drops, Finishes, Reserves, Frees, Names, marked, resized, swept, takes, with_change, with_changes}
 use Rattle.o2_world.specs.Effect.{effect}
 use Rattle.o2_world.specs.Run.{all_changes, before, changed, worked, working}
 use Rattle.o2_world.specs.Giving.{gives}
@@ -33,7 +32,7 @@ use Rattle.o2_alone.specs.Keeping.{IsApart, IsOfNoOther, is_clean}
 use Rattle.o2_alone.specs.Isolation.{AreFixed, IsLike, own_reserves}
 use Rattle.o2_alone.proofs.RenamedViews.{bound_is_in}
 use Rattle.o2_alone.proofs.Unwritten.{IsUnwritten, effect_keeps}
-use Rattle.o2_alone.proofs.OwnNames.{IsOwnName, RunsMayChange, may_change}
+use Rattle.o2_alone.proofs.OwnNames.{IsOwnName, RunsMayChange, may_change, may_lock}
 use Rattle.o2_alone.proofs.AnyNames.{AreOfAny, IsOfAny, effect_of_any}
 use Rattle.o2_alone.proofs.Alikes.{lives_here, low_here}
 use Rattle.o2_alone.proofs.OwnSteps.{kept_here}
@@ -63,13 +62,21 @@ fixed_at_key : (names : Map Segment) (n : ℕ) (g : Segment → Segment) → ((x
 fixed_at_key names n g clean flags fixed q =
     subst IsFixed (sym (get-at_key n q g names)) (fixed_pick (n == q) (option_map g (get names n)) (get names q) (fixed_map g (get names n) clean flags (fixed n)) (fixed q))
 
+marked_clean : (d : Bool) (x : Segment) → (marked d x).clean ≡ x.clean
+marked_clean true x = refl
+marked_clean false x = refl
+
+marked_flags : (d : Bool) (x : Segment) → (marked d x).flags ≡ x.flags
+marked_flags true x = refl
+marked_flags false x = refl
+
 fixed_change : (b : Before) (c : Change) (v : World) → IsOfAny b c → AreFixed v.names → AreFixed (with_change v c).names
 fixed_change b (Makes s) v own fixed q =
     subst IsFixed (sym (get-put v.next_name q (Some s) v.names))
     (fixed_pick (v.next_name == q) (Some s) (get v.names q) (λ z e. fixed_some s z e (λ is. absurd (let no : true ≡ false = sym is ∙ own in cc))) (fixed q))
 fixed_change b (Resizes n size) v own fixed q = fixed_at_key v.names n (λ (s : Segment). record s { bytes = resized size s.bytes }) (λ x. refl) (λ x. refl) fixed q
 fixed_change b (Locks n count) v own fixed q = fixed_at_key v.names n (λ (s : Segment). record s { lock = count }) (λ x. refl) (λ x. refl) fixed q
-fixed_change b (Marks n discarded) v own fixed q = absurd own
+fixed_change b (Marks n d) v own fixed q = fixed_at_key v.names n (marked d) (marked_clean d) (marked_flags d) fixed q
 fixed_change b (Holds p i h) v own fixed q = fixed q
 fixed_change b (Drops p i count) v own fixed q = fixed q
 fixed_change b (Finishes p state) v own fixed q = fixed q
@@ -223,6 +230,11 @@ from_hold (Some k) h e = record { held = k; there = refl; same = hold_is (hold_o
     hold_is : (g h : Hold) → Some g ≡ Some h → g ≡ h
     hold_is g h e = cc
 
+discardable : (a c : Bool) → (a || not c) ≡ true → c ≡ true → a ≡ true
+discardable true c e f = refl
+discardable false true e f = e
+discardable false false e f = absurd (cc)
+
 not_clean : (a : Bool) → not a ≡ true → a ≡ true → ⊥
 not_clean true e f = cc
 not_clean false e f = cc
@@ -291,8 +303,8 @@ module _ (s : Setting) (w : World) (tied : IsTied w) (fixed : AreFixed w.names) 
         one : (c : Change) → IsOfAny b c → LeavesName n c
         one (Makes z) o = tt
         one (Resizes m size) o = own_name may_change m o (λ clean may. not_clean x.clean may clean)
-        one (Locks m count) o = own_name is_discardable m o (λ clean may. absurd (let no : true ≡ false = sym may ∙ fixed n x there clean in cc))
-        one (Marks m discarded) o = absurd o
+        one (Locks m count) o = own_name may_lock m o (λ clean may. absurd (let no : true ≡ false = sym (discardable (has_bit x.flags 2) x.clean may clean) ∙ fixed n x there clean in cc))
+        one (Marks m discarded) o = own_name may_change m o (λ clean may. not_clean x.clean may clean)
         one (Holds p i h) o = tt
         one (Drops p i count) o = tt
         one (Finishes p state) o = tt

@@ -13,7 +13,7 @@ use Rattle.o2_world.specs.declared.types.Slot.{Slot}
 use Rattle.o2_world.specs.CallParts.{Before, Effect, argument}
 use Rattle.o2_world.specs.Rulings.{Ruling, refusal, held_under, free_index, allocation, allocation_at, held_by_call, region_by, is_alias, is_in_run, full_size}
 use Rattle.o2_world.specs.Rulings.{reallocation_of, reallocation_with, keeps_its_size, members, indexes, is_later, in_use, by_load, freeing_of, sizing_of}
-use Rattle.o2_world.specs.Rulings.{sizing_with, is_discardable, locking_of, locking_with, unlocking_of, unlocking_with, aliasing_of, aliasing_at}
+use Rattle.o2_world.specs.Rulings.{is_sizeable, resizes_with, sizing_with, is_discardable, locking_of, locking_with, unlocking_of, unlocking_with, aliasing_of, aliasing_at}
 use Rattle.o2_world.specs.Outcomes.{CallRow, Outcome, ruled}
 use Rattle.o2_world.specs.Calls.{aliasing_by, allocation_by, avail_by, freeing_by, huge_allocation_by, huge_reallocation_by, locking_by, reallocation_by, rows, serviced, shift_by, sizing_by, unlocking_by}
 use Rattle.o2_world.specs.RowLaws.{EachEntry, IsQuiet, changes_of}
@@ -63,7 +63,11 @@ pub record IsOwnName (b : Before) (ok : SegmentMarks → Bool) (n : ℕ) : Type 
 abbrev pub may_change : SegmentMarks → Bool
 may_change m = not m.clean
 
--- Segments that may change get other sizes, and those that are discardable other lock counts. The process holds more of what it holds, or
+-- only what is discardable is locked, or what was made anew
+abbrev pub may_lock : SegmentMarks → Bool
+may_lock m = is_discardable m || may_change m
+
+-- Segments that may change get other sizes and are made anew, and those that are discardable get other lock counts. The process holds more of what it holds, or
 -- of what it makes.
 -- a segment that the process holds as data that can be written
 pub record IsWritableName (b : Before) (n : ℕ) : Type 0 where
@@ -94,8 +98,8 @@ RunsMayChange b = (i j : ℕ) (h g : Held) (m : SegmentMarks) → b.known.held b
 abbrev pub IsOfOwn : Before → Change → Type 0
 IsOfOwn b (Makes s) = s.clean ≡ false
 IsOfOwn b (Resizes n size) = IsOwnName b may_change n
-IsOfOwn b (Locks n count) = IsOwnName b is_discardable n
-IsOfOwn b (Marks n discarded) = ⊥
+IsOfOwn b (Locks n count) = IsOwnName b may_lock n
+IsOfOwn b (Marks n discarded) = IsOwnName b may_change n
 IsOfOwn b (Holds p i h) = (p ≡ b.number) × (((b.known.next ≤ h.name) ⊎ ((index : ℕ) × (hold : Held) × (b.known.held b.number index ≡ Some hold) × (hold.name ≡ h.name))) × IsGoodAlias b h)
 IsOfOwn b (Drops p i count) = p ≡ b.number
 IsOfOwn b (Finishes p state) = ⊥
@@ -140,24 +144,52 @@ module _ (b : Before) where
   not_clean true c e = cc
   not_clean false c e = refl
 
+  discardable : (a c : Bool) → a ≡ true → (a || c) ≡ true
+  discardable true c e = refl
+  discardable false c e = absurd (cc)
+
+  lockable : (a c : Bool) → c ≡ true → (a || c) ≡ true
+  lockable true c e = refl
+  lockable false c e = e
+
+  resize_own : (name size : ℕ) → IsOwnName b may_change name → (d : Bool) → AreOfOwn b (resizes_with name size d)
+  resize_own name size own true = (
+    own,
+    (
+      own,
+      (
+        record {
+          index = own.index;
+          hold = own.hold;
+          there = own.there;
+          named = own.named;
+          marks = own.marks;
+          segment = own.segment;
+          good = lockable (is_discardable own.marks) (may_change own.marks) own.good;
+        },
+        tt,
+      ),
+    ),
+  )
+  resize_own name size own false = (own, tt)
+
   realloc_own : (size s : ℕ) (o : Option Held) → held_under b.known b.number s ≡ o → AreOfOwn b (reallocation_of b.known (full_size size) o).changes
   realloc_own size s None e = tt
   realloc_own size s (Some h) e = rules (is_alias h.cause || is_in_run h) _ _ tt (λ _. by_marks (b.known.segment h.name) refl)
     where
       by_marks : (o : Option SegmentMarks) → b.known.segment h.name ≡ o → AreOfOwn b (reallocation_with h.name (full_size size) o).changes
       by_marks None is = tt
-      by_marks (Some m) is = rules (keeps_its_size (full_size size) m) _ _ tt (λ changes. (
-        record {
-          index = s / 8;
-          hold = h;
-          there = held_there b.known b.number s h e;
-          named = refl;
-          marks = m;
-          segment = is;
-          good = not_clean m.clean (m.shared && nat_lt (full_size size) m.size) changes;
-        },
-        tt,
-      ))
+      by_marks (Some m) is = rules (keeps_its_size (full_size size) m) _ _ tt (λ changes.
+          resize_own h.name (full_size size)
+          (record {
+            index = s / 8;
+            hold = h;
+            there = held_there b.known b.number s h e;
+            named = refl;
+            marks = m;
+            segment = is;
+            good = not_clean m.clean (m.shared && (not (is_sizeable m) && nat_lt (full_size size) m.size)) changes;
+          }) m.discarded)
 
   drops_own : (is : List ℕ) → AreOfOwn b (map (λ (i : ℕ). Drops b.number i 1) is)
   drops_own [] = tt
@@ -177,11 +209,11 @@ module _ (b : Before) where
 
   -- of a segment that is discardable
   locks : (s : ℕ) (h : Held) (m : SegmentMarks) (r : Ruling) → held_under b.known b.number s ≡ Some h → b.known.segment h.name ≡ Some m
-      → (IsOwnName b is_discardable h.name → AreOfOwn b r.changes) → AreOfOwn b (cond (is_discardable m) r (refusal 5)).changes
+      → (IsOwnName b may_lock h.name → AreOfOwn b r.changes) → AreOfOwn b (cond (is_discardable m) r (refusal 5)).changes
   locks s h m r e is own = go (is_discardable m) refl
     where
       go : (t : Bool) → is_discardable m ≡ t → AreOfOwn b (cond t r (refusal 5)).changes
-      go true good = own (record { index = s / 8; hold = h; there = held_there b.known b.number s h e; named = refl; marks = m; segment = is; good = good })
+      go true good = own (record { index = s / 8; hold = h; there = held_there b.known b.number s h e; named = refl; marks = m; segment = is; good = discardable (is_discardable m) (may_change m) good })
       go false good = tt
 
   lock_own : (s : ℕ) (o : Option Held) → held_under b.known b.number s ≡ o → AreOfOwn b (locking_of b.known o).changes
@@ -190,7 +222,7 @@ module _ (b : Before) where
     where
       by_marks : (o : Option SegmentMarks) → b.known.segment h.name ≡ o → AreOfOwn b (locking_with h.name o).changes
       by_marks None is = tt
-      by_marks (Some m) is = locks s h m _ e is (λ own. (own, tt))
+      by_marks (Some m) is = locks s h m _ e is (λ own. rules m.discarded _ _ tt (λ _. (own, tt)))
 
   unlock_own : (s : ℕ) (o : Option Held) → held_under b.known b.number s ≡ o → AreOfOwn b (unlocking_of b.known o).changes
   unlock_own s None e = tt

@@ -77,7 +77,7 @@ mine_changes b mine (c ∷ cs) held next own = (one c own.0, mine_changes b mine
     one (Makes x) o = tt
     one (Resizes n size) o = subst mine o.named (held o.index o.hold o.there)
     one (Locks n count) o = subst mine o.named (held o.index o.hold o.there)
-    one (Marks n discarded) o = absurd o
+    one (Marks n discarded) o = subst mine o.named (held o.index o.hold o.there)
     one (Holds p i h) o = (o.0, by_name o.1.0)
       where
         by_name : (b.known.next ≤ h.name) ⊎ ((index : ℕ) × (hold : Held) × (b.known.held b.number index ≡ Some hold) × (hold.name ≡ h.name)) → mine h.name

@@ -11,7 +11,7 @@ use Rattle.o2_world.specs.World.{Held, Line}
 use Rattle.o2_world.specs.Changes.{Change, Makes, Resizes, Locks, Marks, Holds, Drops, Finishes, Reserves, Frees, Names, hold_lines_of, drop_lines_of, in_order, moved_lines}
 use Rattle.o2_world.specs.Known.{Known, Marks as SegmentMarks}
 use Rattle.o2_world.specs.Rulings.{Ruling, refusal, grants, held_under, free_index, allocation, allocation_at, region_by, made_segment, held_by_call, is_alias, is_in_run}
-use Rattle.o2_world.specs.Rulings.{full_size, reallocation, reallocation_of, reallocation_with, keeps_its_size, members, indexes, is_later, in_use, by_load}
+use Rattle.o2_world.specs.Rulings.{full_size, reallocation, reallocation_of, reallocation_with, resizes_with, keeps_its_size, members, indexes, is_later, in_use, by_load}
 use Rattle.o2_world.specs.Outcomes.{gone_by, gone_indexes, is_gone}
 use Rattle.o2_world.specs.Moves.{AllSpare, Spares}
 use Rattle.o2_world.specs.Rulings.{freeing, freeing_of, freeing_with, sizing, sizing_of, sizing_with}
@@ -163,9 +163,13 @@ allocation_renamed f n k o same size flags room shared = by_flags (nat_lt 15 fla
 pub reallocation_renamed : (f : Renaming) (n : ℕ) (k o : Known) → IsRenamedKnown f n k o → (size s : ℕ) → reallocation o n size s ≡ renamed_ruling f (reallocation k n size s)
 reallocation_renamed f n k o same size s = by_held f n k o same s (reallocation_of k (full_size size)) (reallocation_of o (full_size size)) rules
   where
+    by_mark : (name : ℕ) (d : Bool) → grants 0 (resizes_with (f name) (full_size size) d) ≡ renamed_ruling f (grants 0 (resizes_with name (full_size size) d))
+    by_mark name true = refl
+    by_mark name false = refl
+
     by_marks : (name : ℕ) (m : Option SegmentMarks) → reallocation_with (f name) (full_size size) m ≡ renamed_ruling f (reallocation_with name (full_size size) m)
     by_marks name None = refl
-    by_marks name (Some m) = either f (keeps_its_size (full_size size) m) (refusal 5) (grants 0 (Resizes name (full_size size) ∷ [])) (refusal 5) (grants 0 (Resizes (f name) (full_size size) ∷ [])) refl refl
+    by_marks name (Some m) = either f (keeps_its_size (full_size size) m) (refusal 5) _ (refusal 5) _ refl (by_mark name m.discarded)
 
     rules : (x : Option Held) → HasMarks f k o x → reallocation_of o (full_size size) (option_map (renamed_held f) x) ≡ renamed_ruling f (reallocation_of k (full_size size) x)
     rules None marks = refl
@@ -210,7 +214,7 @@ locking_renamed f n k o same s = by_held f n k o same s (locking_of k) (locking_
   where
     by_marks : (name : ℕ) (m : Option SegmentMarks) → locking_with (f name) m ≡ renamed_ruling f (locking_with name m)
     by_marks name None = refl
-    by_marks name (Some m) = either f (is_discardable m) _ (refusal 5) _ (refusal 5) refl refl
+    by_marks name (Some m) = either f (is_discardable m) _ (refusal 5) _ (refusal 5) (either f m.discarded (refusal 157) _ (refusal 157) _ refl refl) refl
 
     rules : (x : Option Held) → HasMarks f k o x → locking_of o (option_map (renamed_held f) x) ≡ renamed_ruling f (locking_of k x)
     rules None marks = refl

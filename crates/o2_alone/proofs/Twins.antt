@@ -6,7 +6,7 @@ use Rattle.std.proofs.lemmas.Bool.{eq-eqb, eqb-true}
 use Rattle.o2_world.specs.Map.{Map, get, put}
 use Rattle.o2_world.specs.World.{World, Process, Reserve, Segment, Held}
 use Rattle.o2_world.specs.Holders.{process_at}
-use Rattle.o2_world.specs.Changes.{Change, Makes, Resizes, Locks, Marks, Holds, Drops, Finishes, Reserves, Frees, Names, at_number, more, fewer, resized, with_change, with_changes, with_segment, with_held, takes}
+use Rattle.o2_world.specs.Changes.{Change, Makes, Resizes, Locks, Marks, Holds, Drops, Finishes, Reserves, Frees, Names, at_number, marked, more, fewer, resized, with_change, with_changes, with_segment, with_held, takes}
 use Rattle.o2_world.proofs.MapLemmas.{get-at_key, if_yes}
 use Rattle.o2_world.proofs.Numbers.{process_is, at_place_of, changed_is}
 use Rattle.o2_world.proofs.Reached.{get-put, get-place}
@@ -189,7 +189,7 @@ module _ (f : Renaming) (number : ℕ) (some : 0 < number) (mine : ℕ → Type 
   twin_change (Makes s) w a m t = twin_makes s w a t
   twin_change (Resizes n size) w a m t = twin_segment n (λ (s : Segment). record s { bytes = resized size s.bytes }) w a m t
   twin_change (Locks n count) w a m t = twin_segment n (λ (s : Segment). record s { lock = count }) w a m t
-  twin_change (Marks n discarded) w a m t = twin_segment n (λ (s : Segment). record s { discarded = discarded }) w a m t
+  twin_change (Marks n discarded) w a m t = twin_segment n (marked discarded) w a m t
   twin_change (Holds p i h) w a m t =
       subst (λ (p : ℕ). Twins (with_change w (Holds p i h)) (with_change a (Holds p i (renamed_held f h)))) (sym m.0)
       (twin_held i (more h) (more (renamed_held f h)) w a (more_renamed f h) (λ o of. more_mine mine h o m.1 of) t)

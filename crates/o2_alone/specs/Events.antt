@@ -7,7 +7,7 @@ use Rattle.o2_world.specs.World.{World, Setting, Line}
 use Rattle.o2_world.specs.Holders.{process_at}
 use Rattle.o2_world.specs.CallParts.{Before, Effect}
 use Rattle.o2_world.specs.Effect.{effect}
-use Rattle.o2_world.specs.Run.{after, before, is_over, next_dispatch}
+use Rattle.o2_world.specs.Run.{after, before, is_over, next_dispatch, ready}
 
 -- a step: its process, the registers and the state behind it, the bytes that it writes to the console, and its lines
 pub record Event : Type 0 where
@@ -27,9 +27,9 @@ event_of b = event_by b.number (effect b)
 abbrev pub chosen_before : Setting → World → Dispatch → Option Before
 chosen_before s w d = option_map (before s w d.current) (process_at w.processes d.current)
 
--- what the next step starts from; a run that is over has none
+-- what the next step starts from, behind the words `discard` that come before it; a run that is over has none
 abbrev pub next_before : Setting → World → Option Before
-next_before s w = if is_over w then None else chosen_before s w (next_dispatch s w)
+next_before s w = if is_over w then None else chosen_before s (ready w) (next_dispatch s w)
 
 abbrev pub event_list : Option Before → List Event
 event_list None = []

@@ -6,7 +6,7 @@ use Rattle.o2_world.specs.World.{World, Setting, Segment, Held}
 use Rattle.o2_world.specs.Known.{Known, held_at}
 use Rattle.o2_world.specs.CallParts.{Before, argument}
 use Rattle.o2_world.specs.Effect.{effect}
-use Rattle.o2_world.specs.Run.{after}
+use Rattle.o2_world.specs.Run.{after, words_coming}
 use Rattle.o2_world.specs.Giving.{gives}
 use Rattle.o2_alone.specs.Events.{next_before, own_steps}
 use Rattle.o2_alone.specs.Renaming.{Asking, asked, asking_of, call_of, is_full_for}
@@ -61,6 +61,8 @@ HasRoom s w number = (b : Before) → next_before s w ≡ Some b → b.number �
 
 -- Over the first k steps of the run that begins in w, and over as many steps of its run alone as it does itself there.
 pub record KeepsToItself (s : Setting) (w alone : World) (number k : ℕ) : Type 0 where
+  -- no word `discard` comes before a step: at a word what goes depends on the registers of all
+  pub wordless : (j : ℕ) → j < k → words_coming (after s w j) ≡ 0
   -- before each step, whosever it is
   pub apart : (j : ℕ) → j < k → IsApart (after s w j) number
   pub ungiven : (j : ℕ) → j < k → IsUngiven s (after s w j) number

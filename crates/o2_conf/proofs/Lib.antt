@@ -4,3 +4,4 @@ pub mod EachMember
 pub mod Decimals
 pub mod ByName
 pub mod Choice
+pub mod Words

@@ -1,5 +1,5 @@
--- The script: slices in their order.
-use Rattle.std.specs.Prelude.{ℕ, ◌==◌, ◌&&◌, ◌||◌, Bool, not, List, [], ◌∷◌, ◌++◌, length, nat_le, nat_lt, slice_index, Option, Some, None, Result, Ok, if◌then◌else◌}
+-- The script: slices and words `discard` in their order.
+use Rattle.std.specs.Prelude.{ℕ, ◌==◌, ◌&&◌, ◌||◌, Bool, not, List, [], ◌∷◌, ◌++◌, length, nat_le, nat_lt, slice_index, Option, Some, None, Result, Ok, bytes_eq, codes, if◌then◌else◌}
 use Rattle.std.specs.List.{list_all, before_first, after_first, position_or_len}
 use Rattle.std.specs.Str.Parse.{digits_value}
 use Rattle.std.specs.Char.{is_ascii_digit}
@@ -8,7 +8,7 @@ use Rattle.o2_base.specs.declared.faults.Key.TheVariants as key
 use Rattle.o2_base.specs.declared.faults.MachineFault.{MachineFault}
 use Rattle.o2_base.specs.declared.faults.MachineFault.TheVariants.{BadValue, Limit}
 use Rattle.o2_conf.specs.declared.script.Word.{Word}
-use Rattle.o2_conf.specs.declared.script.Word.TheVariants.{Slice}
+use Rattle.o2_conf.specs.declared.script.Word.TheVariants.{Discard, Slice}
 use Rattle.o2_conf.specs.Steps.{◌>>=◌, some_or, within, each}
 use Rattle.o2_conf.specs.Values.{is_from}
 
@@ -33,12 +33,16 @@ halves_of text = do
   within (is_decimal parts.0 && is_decimal parts.1) parts (BadValue key.Script)
 
 -- a word `P:N`, which gives the process P a slice of N steps: first its form, then its numbers' ranges
-abbrev pub word_of : List ℕ → Result Word MachineFault
-word_of text = do
+abbrev pub slice_of : List ℕ → Result Word MachineFault
+slice_of text = do
   parts ← halves_of text
   p ← number_of 65535 parts.0
   n ← number_of 4000000000 parts.1
   Ok (Slice p n)
+
+-- a word by its text
+abbrev pub word_of : List ℕ → Result Word MachineFault
+word_of text = if bytes_eq text (codes "discard") then Ok Discard else slice_of text
 
 -- one more word
 abbrev pub word_step : Data → List Word → Result (List Word) MachineFault

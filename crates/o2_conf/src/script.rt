@@ -1,11 +1,11 @@
-// The script: slices in their order.
+// The script: slices and words `discard` in their order.
 ghost use Rattle.std.specs.Prelude.{◌≡◌, ◌≤◌, [], length, true, IfOk, option_map};
 ghost use Rattle.std.specs.Char.{is_ascii_digit};
 ghost use Rattle.std.specs.List.{list_all};
 ghost use Rattle.toml.specs.View.{items_view, table_view, view};
 ghost use Rattle.o2_conf.specs.Steps.{Gives, each};
 ghost use Rattle.o2_conf.specs.Values.{value_at};
-ghost use Rattle.o2_conf.specs.Script.{cut_of, is_decimal, number_of, word_of, word_step, script_or};
+ghost use Rattle.o2_conf.specs.Script.{cut_of, is_decimal, number_of, slice_of, word_of, word_step, script_or};
 
 use crate::table::value;
 use o2_base::{Fail, Key, MachineFault};
@@ -17,6 +17,8 @@ use toml::{Table, Value};
 pub enum Word {
     /// This process (1 to 65,535) does up to so many steps (1 to 4,000,000,000); passed where it is unknown or has ended.
     Slice(u16, u32),
+    /// Segments that may be discarded and aren't in use lose their bytes. It takes no step.
+    Discard,
 }
 
 fn all_digits(text: &[u8]) -> bool
@@ -54,9 +56,9 @@ fn cut(text: &str) -> Option<(&str, &str)>
     text.split_once(':')
 }
 
-/// A word by its text: first the form of both halves, then their ranges.
-fn word_of(text: &str) -> Result<Word, MachineFault>
-    ensures { result ≡ word_of text.now }
+/// A slice by its text: first the form of both halves, then their ranges.
+fn slice_of(text: &str) -> Result<Word, MachineFault>
+    ensures { result ≡ slice_of text.now }
 {
     let Some((process, steps)) = cut(text) else {
         return Err(MachineFault::BadValue(Key::Script));
@@ -67,6 +69,16 @@ fn word_of(text: &str) -> Result<Word, MachineFault>
     let process = number_of(65535, process)?;
     let steps = number_of(4000000000, steps)?;
     Ok(Word::Slice(process as u16, steps as u32))
+}
+
+/// A word by its text.
+fn word_of(text: &str) -> Result<Word, MachineFault>
+    ensures { result ≡ word_of text.now }
+{
+    if text == "discard" {
+        return Ok(Word::Discard);
+    }
+    slice_of(text)
 }
 
 /// One more word of an array.

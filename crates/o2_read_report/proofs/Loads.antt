@@ -7,18 +7,18 @@ use Rattle.o2_isa.specs.declared.cpu.Purpose.{Purpose}
 use Rattle.o2_isa.specs.declared.cpu.Purpose.TheVariants.{DataReg, StackReg, Jump, Call, Return}
 use Rattle.o2_isa.specs.declared.cpu.Loaded.{Loaded}
 use Rattle.o2_isa.specs.declared.cpu.Loaded.TheVariants as loaded
-use Rattle.o2_isa.specs.View.{View, found, gate_at, is_local, is_null, is_readable, load_rules, probe_of, refused, through_gate}
+use Rattle.o2_isa.specs.View.{View, found, gate_at, is_local, is_null, is_readable, load_rules, probe_of, refused, through_gate, trap_of}
 use Rattle.o2_world.specs.Map.{get}
 use Rattle.o2_world.specs.World.{World, Process, Held}
 use Rattle.o2_world.specs.Holders.{process_at}
-use Rattle.o2_world.specs.Views.{hold_of, view_of}
+use Rattle.o2_world.specs.Views.{discarded_in, hold_of, view_of}
 use Rattle.o2_world.specs.Sound.{held_in, held_of}
 use Rattle.o2_world.specs.Reach.{IsTold, holds_of}
 use Rattle.o2_world.specs.Tied.{IsSound}
 use Rattle.o2_world.proofs.Numbers.{at_place_of, number_some}
 use Rattle.o2_world.proofs.Reached.{number_holds}
 use Rattle.o2_world.proofs.RunReach.{reach_is}
-use Rattle.o2_read_report.specs.Finds.{FindsReach, reach_of}
+use Rattle.o2_read_report.specs.Finds.{FindsReach, done_or_gone, reach_of}
 
 -- a selector of the local table isn't null
 local_some : (s : ℕ) → is_local s ≡ true → is_null s ≡ false
@@ -57,6 +57,12 @@ none_loads v Jump s here = no_jump s (is_null s) (local_some s here)
 none_loads v Call s here =
     ap (λ (l : Loaded). if is_null s then loaded.Trap 13 0 else l) (no_gate v s here) ∙ no_jump s (is_null s) (local_some s here)
 none_loads v Return s here = no_stack v s (is_null s) (s % 4 == 3) (local_some s here)
+
+-- all is present
+gone_by : (r g : Bool) (s : ℕ) → (if r then (if g then trap_of 11 s else loaded.Done) else refused s) ≡ (if r then done_or_gone g s else refused s)
+gone_by true true s = refl
+gone_by true false s = refl
+gone_by false g s = refl
 
 some_data : (null : Bool) (x : Loaded) → null ≡ false → (if null then loaded.Done else x) ≡ x
 some_data true x e = absurd (cc)
@@ -108,7 +114,13 @@ module _ (w : World) (number : ℕ) (p : Process) (sound : IsSound w) (told : Is
   by_held (Some h) e = record {
     finds = ap is_some (found_by (Some h) e) ∙ sym (is_above h.holds (some_held h e)) ∙ sym (ap (λ (n : ℕ). nat_lt 0 n) (reach_by (Some h) e));
     refuses = λ none purpose. absurd (no_number h.holds (sym (reach_by (Some h) e) ∙ none) (some_held h e));
-    loads = λ some. (hold_of h, found_by (Some h) e, probe_by DataReg (Some h) e ∙ some_data (is_null s.0) (if is_readable h.rights then loaded.Done else refused s.0) (local_some s.0 here));
+    loads = λ some. (
+      hold_of h,
+      found_by (Some h) e,
+      probe_by DataReg (Some h) e
+          ∙ (some_data (is_null s.0) (if is_readable h.rights then (if discarded_in w.names h.name then trap_of 11 s.0 else loaded.Done) else refused s.0) (local_some s.0 here)
+          ∙ gone_by (is_readable h.rights) (discarded_in w.names h.name) s.0),
+    );
   }
 
   pub finds_reach : FindsReach w number p s

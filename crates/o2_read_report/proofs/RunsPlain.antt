@@ -12,7 +12,7 @@ use Rattle.o2_world.specs.Changes.{Change, Makes, Resizes, Locks, Marks, Holds, 
 use Rattle.o2_world.specs.Known.{lives_at}
 use Rattle.o2_world.specs.CallParts.{Before, Effect}
 use Rattle.o2_world.specs.Effect.{effect}
-use Rattle.o2_world.specs.Run.{acted, after, all_changes, before, changed, chosen_step, is_over, next_dispatch, step, worked, working}
+use Rattle.o2_world.specs.Run.{acted, after, all_changes, before, changed, chosen_step, is_over, next_dispatch, ready, step, with_word, worked, working}
 use Rattle.o2_world.specs.Moves.{AllMoves, AreOwn, IsHolder, IsOwn, Maker, OneNamed, OneRun, OwnMoves, Sharer, SomeShared}
 use Rattle.o2_world.specs.Opening.{hold_lines, start_lines}
 use Rattle.o2_world.specs.Starts.{Built, Holding, Start, all_started, first_process, holdings, holds_as, name_in, nothing_built, opening_of, with_holding, with_holdings, with_started}
@@ -25,6 +25,7 @@ use Rattle.o2_world.proofs.RunReach.{lines_are}
 use Rattle.o2_world.proofs.StepMoves.{effect_moves}
 use Rattle.o2_world.proofs.StepSound.{next_process}
 use Rattle.o2_world.proofs.StepTold.{along}
+use Rattle.o2_world.proofs.Words.{ready_keeps, ready_stays}
 use Rattle.o2_world.proofs.Telling.{below, number_length}
 use Rattle.o2_read_report.specs.Plain.{ArePlain, IsPlainStart, has}
 use Rattle.o2_read_report.proofs.PlainLines.{IsNumbered, effect_plain, plain_append}
@@ -135,7 +136,7 @@ module _ (s : Setting) (w : World) (p : Process) (d : Dispatch) (at : process_at
       (shares_numbered to (held_each b.known from xs shares.shared) (sharer_numbered to shares.lives))
   all_numbered (OneRun moves ruled) =
       run_parts b IsNumbered (record {
-        makes = λ g. tt;
+        makes = λ size flags. tt;
         resizes = λ m size. tt;
         holds = λ q i h holder. holder_numbered q holder;
         drops = λ i count. small;
@@ -151,19 +152,25 @@ pub record HasPlain (w : World) : Type 0 where
   pub few : length w.processes < 10 ^ 64
   pub lines : ArePlain w.lines
 
+chosen_plain : (s : Setting) (w : World) → is_over w ≡ false → HasPlain w → HasPlain (chosen_step s w)
+chosen_plain s w runs plain =
+    let d = next_dispatch s w in
+    let here = next_process s w runs in
+    subst (λ (o : Option Process). HasPlain (acted s w d o)) (sym here.1) (record {
+      few = subst (λ (k : ℕ). k < 10 ^ 64) (sym (changed_length w d here.0 (effect (before s w d.current here.0)))) plain.few;
+      lines = acted_plain s w here.0 d here.1 plain.few plain.lines;
+    })
+
+word_plain : (w : World) → HasPlain w → HasPlain (with_word w)
+word_plain w plain = record { few = plain.few; lines = plain.lines }
+
 pub step_plain : (s : Setting) (w : World) → HasPlain w → HasPlain (step s w)
 unfolding step
 step_plain s w plain = go (is_over w) refl
   where
-    go : (b : Bool) → is_over w ≡ b → HasPlain (if b then w else chosen_step s w)
+    go : (b : Bool) → is_over w ≡ b → HasPlain (if b then w else chosen_step s (ready w))
     go true over = plain
-    go false runs =
-        let d = next_dispatch s w in
-        let here = next_process s w runs in
-        subst (λ (o : Option Process). HasPlain (acted s w d o)) (sym here.1) (record {
-          few = subst (λ (k : ℕ). k < 10 ^ 64) (sym (changed_length w d here.0 (effect (before s w d.current here.0)))) plain.few;
-          lines = acted_plain s w here.0 d here.1 plain.few plain.lines;
-        })
+    go false runs = chosen_plain s (ready w) ((ready_stays w).over ∙ runs) (ready_keeps {P = HasPlain} word_plain w plain)
 
 pub along_plain : (s : Setting) (w : World) → HasPlain w → (k : ℕ) → HasPlain (after s w k)
 along_plain s w plain k = along {P = HasPlain} s (step_plain s) w plain k

@@ -48,7 +48,7 @@ pub fn lines_of_runs_are_plain()
 
 /// What a load finds agrees with the report: in a sound world whose lines tell what is held, a selector of the local table names a
 /// segment of a process exactly where the report's reach is above 0. Elsewhere each load of it is exception 13, and there a load into DS
-/// or ES is done if the segment may be read. So it is behind each step of a run from such a world on.
+/// or ES is done if the segment may be read, or exception 11 where it is discarded. So it is behind each step of a run from such a world on.
 pub fn loads_find_what_is_reached()
     ensures worlds { (w : World) (q : ℕ) (p : Process) → IsSound w → IsTold w
         → process_at w.processes q ≡ Some p

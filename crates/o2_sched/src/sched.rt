@@ -3,7 +3,7 @@ ghost use Rattle.std.specs.Prelude.{◌≡◌, ◌≤◌, ◌<◌, ◌+◌, ◌-
 ghost use Rattle.std.specs.List.{list_any};
 ghost use Rattle.o2_conf.specs.Dispatch.{counted};
 
-use crate::place::{Place, advanced, fill_turns};
+use crate::place::{Place, advanced, fill_turns, to_discard};
 use o2_base::NoMemory;
 use o2_conf::{Conf, Word};
 use std::alloc::Global;
@@ -14,6 +14,8 @@ use std::marker::Model;
 pub enum Pick {
     /// A step of this process.
     Step(u16),
+    /// A word `discard`, before that step.
+    Discard,
     /// Nothing: all processes have ended.
     AllEnded,
     /// Nothing: the budget is spent.
@@ -52,7 +54,8 @@ impl Model for Sched {
 }
 
 impl Sched {
-    ghost use Rattle.o2_sched.specs.Schedule.{Schedule, ahead_of, next_of, pick_of, is_step, taken, PicksLive, opening_dispatch};
+    ghost use Rattle.o2_sched.specs.declared.sched.Pick.TheVariants.{Discard};
+    ghost use Rattle.o2_sched.specs.Schedule.{Schedule, has_word, ahead_of, behind_pick, next_of, pick_of, is_step, taken, PicksLive, opening_dispatch};
 
     /// The schedule of so many processes, before their first step. The budget is the steps of the whole run, and the quantum
     /// those of a turn.
@@ -107,17 +110,26 @@ impl Sched {
         self.budget
     }
 
+    /// Whether a word `discard` comes before the next step.
+    fn has_word(&self) -> bool
+        ensures { result ≡ has_word self.now }
+    {
+        to_discard(self.place, &self.script, &self.flags) > 0
+    }
+
     /// What comes next. A step is one of a process that lives.
-    pub fn next(&mut self) -> Pick
-        ensures pick { result ≡ pick_of self.old }
-        ensures live { PicksLive self.old.flags result }
-        ensures same { self.new ≡ self.old }
+    pub fn coming(&self) -> Pick
+        ensures pick { result ≡ pick_of self.now }
+        ensures live { PicksLive self.now.flags result }
     {
         if !self.any_lives {
             return Pick::AllEnded;
         }
         if self.budget == 0 {
             return Pick::BudgetSpent;
+        }
+        if self.has_word() {
+            return Pick::Discard;
         }
         let place = advanced(
             self.place,
@@ -127,6 +139,35 @@ impl Sched {
             self.quantum,
         );
         Pick::Step(place.current)
+    }
+
+    /// Takes the word that comes before the next step.
+    fn take_word(&mut self)
+        requires { has_word self.old ≡ true }
+        ensures { self.new ≡ behind_pick self.old Discard }
+    {
+        let words = to_discard(self.place, &self.script, &self.flags);
+        self.place = Place {
+            at: self.place.at + words,
+            ..self.place
+        };
+    }
+
+    /// What comes next, where a word `discard` is taken: behind it comes what the script goes on with.
+    pub fn next(&mut self) -> Pick
+        ensures pick { result ≡ pick_of self.old }
+        ensures live { PicksLive self.old.flags result }
+        ensures behind { self.new ≡ behind_pick self.old result }
+    {
+        match self.coming() {
+            Pick::Step(pid) => Pick::Step(pid),
+            Pick::AllEnded => Pick::AllEnded,
+            Pick::BudgetSpent => Pick::BudgetSpent,
+            Pick::Discard => {
+                self.take_word();
+                Pick::Discard
+            }
+        }
     }
 
     /// The step that was next is done.
@@ -149,7 +190,7 @@ impl Sched {
     }
 
     /// The steps that may be taken at once: all that are left of the turn that the next step is of, within the budget. None where all
-    /// processes have ended.
+    /// processes have ended, or a word `discard` comes before them.
     pub fn ahead(&mut self) -> Ahead
         ensures most { result.most ≡ ahead_of self.old }
         ensures process { result.process ≡ (next_of self.old).current }
@@ -163,13 +204,12 @@ impl Sched {
             self.quantum,
         );
         let process = place.current;
-        if self.any_lives {
-            Ahead {
-                process,
-                most: place.left.min(self.budget),
-            }
-        } else {
-            Ahead { process, most: 0 }
+        if !self.any_lives || self.has_word() {
+            return Ahead { process, most: 0 };
+        }
+        Ahead {
+            process,
+            most: place.left.min(self.budget),
         }
     }
 

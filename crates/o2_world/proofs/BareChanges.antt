@@ -7,7 +7,7 @@ use Rattle.o2_world.specs.Map.{Map, at_key, get, put}
 use Rattle.o2_world.specs.World.{World, Process, Segment, Held, Reserve}
 use Rattle.o2_world.specs.Holders.{holds_name, is_held, process_at, with_process}
 use Rattle.o2_world.specs.Views.{with_bytes}
-use Rattle.o2_world.specs.Changes.{Change, Makes, Resizes, Locks, Marks, Holds, Drops, Finishes, Reserves, Frees, Names, at_number, at_place, fewer, holds_run, is_used, more, own_run_held, resized, swept, takes, told_of, used, with_all, with_change, with_changes}
+use Rattle.o2_world.specs.Changes.{marked, Change, Makes, Resizes, Locks, Marks, Holds, Drops, Finishes, Reserves, Frees, Names, at_number, at_place, fewer, holds_run, is_used, more, own_run_held, resized, swept, takes, told_of, used, with_all, with_change, with_changes}
 use Rattle.o2_world.specs.CallParts.{Effect}
 use Rattle.o2_world.specs.Run.{worked, working}
 use Rattle.o2_world.specs.Bare.{Bare, bare, bare_names, held_maps}
@@ -129,6 +129,10 @@ bare_change w (Reserves r) = record w { reserved = r ∷ w.reserved }
 bare_change w (Frees region first) = record w { reserved = filter (λ (r : Reserve). not ((r.region == region) && (r.first == first))) w.reserved }
 bare_change w (Names text name) = record w { texts = (text, name) ∷ w.texts }
 
+bare_marked : (d : Bool) (s : Segment) → stripped (marked d s) ≡ record (stripped s) { discarded = d }
+bare_marked true s = refl
+bare_marked false s = refl
+
 one_bare : (w : World) (c : Change) → bare (with_change w c) ≡ bare_change (bare w) c
 one_bare w (Makes s) = refl
 one_bare w (Resizes n size) =
@@ -136,7 +140,7 @@ one_bare w (Resizes n size) =
 one_bare w (Locks n count) =
     ap (λ (names : Map Segment). record (bare w) { names = names }) (bare_at_key n (λ (s : Segment). record s { lock = count }) (λ (s : Segment). record s { lock = count }) (λ s. refl) w.names)
 one_bare w (Marks n d) =
-    ap (λ (names : Map Segment). record (bare w) { names = names }) (bare_at_key n (λ (s : Segment). record s { discarded = d }) (λ (s : Segment). record s { discarded = d }) (λ s. refl) w.names)
+    ap (λ (names : Map Segment). record (bare w) { names = names }) (bare_at_key n (marked d) (λ (s : Segment). record s { discarded = d }) (bare_marked d) w.names)
 one_bare w (Holds p i h) =
     ap (λ (held : List (Map Held)). record (bare w) { held = held }) (maps_at_number p (λ (x : Process). record x { held = put i (more h (get x.held i)) x.held }) (λ (m : Map Held). put i (more h (get m i)) m) (λ x. refl) w.processes)
 one_bare w (Drops p i count) =

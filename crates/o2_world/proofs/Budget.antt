@@ -1,12 +1,13 @@
 -- A run has no more steps than its budget.
 use Rattle.std.proofs.Common.{◌≡◌, ℕ, zero, suc, ◌+◌, ◌-◌, ◌<◌, ◌≤◌, Bool, true, false, not, ◌||◌, ◌==◌, nat_lt, ◌&&◌, if◌then◌else◌, List, [], ◌∷◌, Option, Some, ap, sym, ◌∙◌, refl, arith, subst, below_more}
 use Rattle.o2_conf.specs.declared.script.Word.{Word}
-use Rattle.o2_conf.specs.declared.script.Word.TheVariants.{Slice}
+use Rattle.o2_conf.specs.declared.script.Word.TheVariants.{Slice, Discard}
 use Rattle.o2_world.specs.World.{World, Setting, Process}
 use Rattle.o2_conf.specs.Dispatch.{Dispatch, dispatched, started, live_script, lives}
 use Rattle.o2_world.specs.Effect.{effect}
-use Rattle.o2_world.specs.Run.{all_changes, before, changed, worked, acted, step, chosen_step, after, is_over, any_lives, live_flags, next_dispatch, steps_done, IsLast}
-use Rattle.o2_world.proofs.MapLemmas.{if_no}
+use Rattle.o2_world.specs.Run.{all_changes, before, changed, worked, acted, step, chosen_step, after, is_over, any_lives, live_flags, next_dispatch, ready, steps_done, IsLast}
+pub use Rattle.o2_world.proofs.Words.{step_runs}
+use Rattle.o2_world.proofs.Words.{ready_stays}
 use Rattle.o2_conf.proofs.Choice.{chosen_lives}
 use Rattle.o2_world.specs.Calls.{Effect}
 use Rattle.o2_world.proofs.OwnChanges.{all_dispatch}
@@ -15,6 +16,7 @@ use Rattle.o2_world.proofs.Flags.{live_process}
 started_budget : (quantum : ℕ) (flags : List Bool) (d : Dispatch) (words : List Word) → (started quantum flags d words).budget ≡ d.budget
 started_budget quantum flags d [] = refl
 started_budget quantum flags d (Slice process count ∷ words) = refl
+started_budget quantum flags d (Discard ∷ words) = refl
 
 either_budget : (b : Bool) (d e : Dispatch) → e.budget ≡ d.budget → (if b then d else e).budget ≡ d.budget
 either_budget true d e h = refl
@@ -37,19 +39,20 @@ acted_budget s w d p h =
     let same : (acted s w d (Some p)).dispatch.budget ≡ d.budget - 1 = ap (λ (x : Dispatch). x.budget) (all_dispatch (worked w d p e) (all_changes d.current e)) in
     omega (arith, same, h)
 
-pub step_runs : (s : Setting) (w : World) → is_over w ≡ false → step s w ≡ chosen_step s w
-unfolding step
-step_runs s w runs = if_no (is_over w) w (chosen_step s w) runs
-
-step_budget : (s : Setting) (w : World) → is_over w ≡ false → (step s w).dispatch.budget + 1 ≡ w.dispatch.budget
-step_budget s w e =
+chosen_budget : (s : Setting) (w : World) → is_over w ≡ false → (chosen_step s w).dispatch.budget + 1 ≡ w.dispatch.budget
+chosen_budget s w e =
     let runs = not_over (any_lives w.processes) w.dispatch.budget e in
     let d : Dispatch = next_dispatch s w in
     let same : d.budget ≡ w.dispatch.budget = dispatched_budget s.quantum (live_flags w.processes) w.dispatch in
     let lives_here : lives (live_flags w.processes) d.current ≡ true = chosen_lives s.quantum (live_flags w.processes) w.dispatch runs.0 in
     let here = live_process w.processes (live_flags w.processes) d.current refl lives_here in
     let P : Option Process → Type 0 = λ o. (acted s w d o).dispatch.budget + 1 ≡ w.dispatch.budget in
-    ap (λ (v : World). v.dispatch.budget + 1) (step_runs s w e) ∙ subst P (sym here.1) (acted_budget s w d here.0 (omega (arith, same, runs.1)) ∙ same)
+    subst P (sym here.1) (acted_budget s w d here.0 (omega (arith, same, runs.1)) ∙ same)
+
+step_budget : (s : Setting) (w : World) → is_over w ≡ false → (step s w).dispatch.budget + 1 ≡ w.dispatch.budget
+step_budget s w e =
+    let behind = ready_stays w in
+    ap (λ (v : World). v.dispatch.budget + 1) (step_runs s w e) ∙ (chosen_budget s (ready w) (behind.over ∙ e) ∙ behind.budget)
 
 pub budget_after : (s : Setting) (w : World) (k : ℕ) → ((j : ℕ) → j < k → is_over (after s w j) ≡ false)
     → (after s w k).dispatch.budget + k ≡ w.dispatch.budget

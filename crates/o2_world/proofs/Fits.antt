@@ -16,13 +16,10 @@ both : (a b : Bool) → (a && b) ≡ true → (a ≡ true) × (b ≡ true)
 both true b e = (refl, e)
 both false b e = absurd (cc)
 
-fits_by : (n p h : Bool) → (n || (p && h)) ≡ true → (n || h) ≡ true
-fits_by n p h e = grind arith
-
 -- where a pointer is good its range can be written
-good_fits : (v : View) (s offset count : ℕ) → may_write v s offset count ≡ true → fits_at v.held v.bytes s offset count ≡ true
+good_fits : (v : View) (s offset count : ℕ) → may_write v s offset count ≡ true → fits_at v v.bytes s offset count ≡ true
 unfolding is_good
-good_fits v s offset count e = fits_by (count == 0) (is_for_es v s) _ e
+good_fits v s offset count e = e
 
 -- fewer bytes than the pointer is good for
 fewer_range : (f : ℕ → List ℕ) (ok : ℕ → Bool) (offset n m : ℕ) (o : Option Hold) → n ≤ m → has_range f ok offset m o ≡ true
@@ -34,23 +31,24 @@ fewer_range f ok offset n m (Some x) h e = go (ok x.rights) e
     go true e = grind arith
     go false e = e
 
-pub fewer_fit : (held : ℕ → Option Hold) (f : ℕ → List ℕ) (s offset n m : ℕ) → n ≤ m → fits_at held f s offset m ≡ true
-    → fits_at held f s offset n ≡ true
-fewer_fit held f s offset n m h e = go (m == 0) (n == 0) (λ z. zero_by n m h z) e
+pub fewer_fit : (v : View) (f : ℕ → List ℕ) (s offset n m : ℕ) → n ≤ m → fits_at v f s offset m ≡ true
+    → fits_at v f s offset n ≡ true
+fewer_fit v f s offset n m h e = go (m == 0) (n == 0) (is_for_es v s) (λ z. zero_by n m h z) e
   where
     zero_by : (n m : ℕ) → n ≤ m → (m == 0) ≡ true → (n == 0) ≡ true
     zero_by n m h z = grind arith
 
-    go : (y x : Bool) → (y ≡ true → x ≡ true) → (y || has_range f is_writable offset m (bound_in held s)) ≡ true
-        → (x || has_range f is_writable offset n (bound_in held s)) ≡ true
-    go true x z e = ap (λ (t : Bool). t || has_range f is_writable offset n (bound_in held s)) (z refl)
-    go false true z e = refl
-    go false false z e = fewer_range f is_writable offset n m (bound_in held s) h e
+    go : (y x w : Bool) → (y ≡ true → x ≡ true) → (y || (w && has_range f is_writable offset m (bound_in v.held s))) ≡ true
+        → (x || (w && has_range f is_writable offset n (bound_in v.held s))) ≡ true
+    go true x w z e = ap (λ (t : Bool). t || (w && has_range f is_writable offset n (bound_in v.held s))) (z refl)
+    go false true w z e = refl
+    go false false true z e = fewer_range f is_writable offset n m (bound_in v.held s) h e
+    go false false false z e = absurd (cc)
 
 -- A value fits behind its pointers.
 
 pub first_fits : (v : View) (ss : List Slot) (a : ℕ → ℕ) (count : ℕ) → (let n = words_in ss in (may_write v (a (n + 1)) (a n) count && are_good v (pointers_in ss v a)) ≡ true)
-    → (let n = words_in ss in fits_at v.held v.bytes (a (n + 1)) (a n) count ≡ true) × (are_good v (pointers_in ss v a) ≡ true)
+    → (let n = words_in ss in fits_at v v.bytes (a (n + 1)) (a n) count ≡ true) × (are_good v (pointers_in ss v a) ≡ true)
 first_fits v ss a count good =
     let n = words_in ss in
     let parts = both (may_write v (a (n + 1)) (a n) count) (are_good v (pointers_in ss v a)) good in
@@ -78,7 +76,7 @@ are_of_value [] = true
 are_of_value (s ∷ ss) = is_of_value s && are_of_value ss
 
 pub value_fits : (v : View) (ss : List Slot) (a : ℕ → ℕ) (value : ℕ) → are_of_value ss ≡ true → are_good v (pointers_in ss v a) ≡ true
-    → AreFitParts v.held v.bytes (targets_in ss a) (parts_in ss value)
+    → AreFitParts v v.bytes (targets_in ss a) (parts_in ss value)
 value_fits v [] a value e good = tt
 value_fits v (Word ∷ ss) a value e good = value_fits v ss a value e good
 value_fits v (Long ∷ ss) a value e good = value_fits v ss a value e good
@@ -104,14 +102,15 @@ read_fits f n (Some h) e = go (is_writable h.rights) (no_more n (f h.name)) e
     go true few e = grind arith
     go false few e = e
 
-or_right : (a b : Bool) → b ≡ true → (a || b) ≡ true
-or_right true b e = refl
-or_right false b e = e
+or_right : (a b c : Bool) → b ≡ true → c ≡ true → (a || (b && c)) ≡ true
+or_right true b c e f = refl
+or_right false true c e f = f
+or_right false false c e f = absurd (cc)
 
 pub heap_fits : (b : Before) (s : ℕ) (part : List ℕ) → may_have_heap b.view s ≡ true → length part ≡ length (heap_bytes b s)
-    → fits_at b.view.held b.view.bytes s 0 (length part) ≡ true
+    → fits_at b.view b.view.bytes s 0 (length part) ≡ true
 unfolding range_of
 heap_fits b s part good same =
-    let writable = (both (is_for_es b.view s) (is_for_writing (bound_in b.view.held s)) good).1 in
-    let there = or_right (length (heap_bytes b s) == 0) _ (read_fits b.view.bytes heap_most (bound_in b.view.held s) writable) in
-    subst (λ (n : ℕ). fits_at b.view.held b.view.bytes s 0 n ≡ true) (sym same) there
+    let here = both (is_for_es b.view s) (is_for_writing (bound_in b.view.held s)) good in
+    let there = or_right (length (heap_bytes b s) == 0) (is_for_es b.view s) _ here.0 (read_fits b.view.bytes heap_most (bound_in b.view.held s) here.1) in
+    subst (λ (n : ℕ). fits_at b.view b.view.bytes s 0 n ≡ true) (sym same) there

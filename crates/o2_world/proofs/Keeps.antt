@@ -5,7 +5,7 @@ use Rattle.o2_world.specs.Map.{Map, get}
 use Rattle.o2_world.specs.World.{World, Setting, Process, Segment, Held}
 use Rattle.o2_world.specs.Holders.{names_it, holds_name, is_held, process_at, with_process}
 use Rattle.o2_world.specs.Views.{with_bytes}
-use Rattle.o2_world.specs.Run.{step, chosen_step, is_over}
+use Rattle.o2_world.specs.Run.{step, chosen_step, is_over, ready}
 use Rattle.o2_world.specs.Sound.{held_in}
 use Rattle.o2_world.proofs.MapLemmas.{get-map, found_any, if_yes}
 use Rattle.o2_world.proofs.Numbers.{number_some, at_place_of, with_is}
@@ -96,4 +96,4 @@ other_number ps n x place other = go (n == 0) refl
 -- a run that is over stays as it is
 pub over_stays : (s : Setting) (w : World) → is_over w ≡ true → step s w ≡ w
 unfolding step
-over_stays s w over = if_yes (is_over w) w (chosen_step s w) over
+over_stays s w over = if_yes (is_over w) w (chosen_step s (ready w)) over

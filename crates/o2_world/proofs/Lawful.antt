@@ -1,5 +1,5 @@
 -- Each row writes no more than its pointers are for, and changes one of a few things.
-use Rattle.std.proofs.Common.{◌≡◌, ◌≤◌, ◌==◌, ◌&&◌, ℕ, Bool, true, false, cond, List, [], ◌∷◌, length, take, refl, arith}
+use Rattle.std.proofs.Common.{◌≡◌, ◌≤◌, ◌==◌, ℕ, Bool, true, false, cond, List, [], ◌∷◌, length, take, refl, arith}
 use Rattle.std.proofs.lemmas.Grind.{common_steps}
 use Rattle.o2_isa.specs.declared.cpu.Cpu.{Cpu}
 use Rattle.o2_isa.specs.View.{View, is_writable}
@@ -10,7 +10,7 @@ use Rattle.o2_world.specs.Rulings.{Ruling, grants}
 use Rattle.o2_world.specs.HugeRulings.{huge_shift}
 use Rattle.o2_world.specs.HeapRulings.{HeapRuling, giving_back, setting_up, taking}
 use Rattle.o2_world.specs.Slots.{Pointer, are_good, may_have_heap, pointer_at, pointers_in, targets_in, words_in}
-use Rattle.o2_world.specs.Outcomes.{CallRow, Outcome, row, ruled}
+use Rattle.o2_world.specs.Outcomes.{Outcome, row, ruled}
 use Rattle.o2_world.specs.SemRulings.{SemRuling, Becomes, Refuses, Waiting}
 use Rattle.o2_world.specs.Calls.{by_semaphore, exiting, heap_bytes, is_console, nothing_written, number_written, on_heap, read_slots, reading, rows, telling_pid, wanted_slots, writing}
 use Rattle.o2_world.specs.Moves.{AllMoves, NoneMoves, OwnMoves}
@@ -62,11 +62,11 @@ reads name = record {
 }
   where
     got : (b : Before) (a : ℕ → ℕ) → are_good b.view (pointers_in read_slots b.view a) ≡ true
-        → (let part = take (a 2) b.input in AreFitParts b.view.held b.view.bytes (targets_in read_slots a) (part ∷ word_bytes (length part) ∷ []))
+        → (let part = take (a 2) b.input in AreFitParts b.view b.view.bytes (targets_in read_slots a) (part ∷ word_bytes (length part) ∷ []))
     got b a good =
         let part = take (a 2) b.input in
         let first = first_fits b.view (Word ∷ ToWord ∷ []) a (a 2) good in
-        (fewer_fit b.view.held b.view.bytes (a 4) (a 3) (length part) (a 2) (took (a 2) b.input) first.0, ((first_fits b.view [] a 2 first.1).0, tt))
+        (fewer_fit b.view b.view.bytes (a 4) (a 3) (length part) (a 2) (took (a 2) b.input) first.0, ((first_fits b.view [] a 2 first.1).0, tt))
 
 writes : (name : List ℕ) → IsLawful (row name (Word ∷ Reads ∷ Word ∷ ToWord ∷ []) writing)
 writes name = record {
@@ -95,11 +95,11 @@ by_its_heap name ss ruling e keeps =
 
 -- the rows of semaphores: what is written is four bytes or nothing
 
-no_part_fits : (v : View) (ps : List Pointer) → AreFitParts v.held v.bytes ps []
+no_part_fits : (v : View) (ps : List Pointer) → AreFitParts v v.bytes ps []
 no_part_fits v [] = tt
 no_part_fits v (p ∷ ps) = tt
 
-number_fits : (b : Before) (p : Pointer) (ps : List Pointer) (r : SemRuling) → fits_at b.view.held b.view.bytes p.selector p.offset 4 ≡ true
+number_fits : (b : Before) (p : Pointer) (ps : List Pointer) (r : SemRuling) → fits_at b.view b.view.bytes p.selector p.offset 4 ≡ true
     → IsFitOutcome b.view (p ∷ ps) (by_semaphore number_written b r)
 number_fits b p ps (Becomes number) fit = (fit, no_part_fits b.view ps)
 number_fits b p ps Waiting fit = tt

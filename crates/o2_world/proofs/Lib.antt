@@ -11,6 +11,7 @@ pub mod StepReach
 pub mod RunReach
 pub mod TiedChanges
 pub mod TiedSteps
+pub mod Seats
 pub mod TiedWorld
 pub mod FitRows
 pub mod FitFrees
@@ -26,6 +27,7 @@ pub mod FitRuns
 pub mod HeapSizes
 pub mod Fits
 pub mod Lawful
+pub mod Unreached
 pub mod StepMoves
 pub mod MovesFit
 pub mod RunsFit
@@ -39,6 +41,10 @@ pub mod OpeningSound
 pub mod OpeningTied
 pub mod OpeningTold
 pub mod Openings
+pub mod Words
+pub mod Discarding
+pub mod DiscardedStays
+pub mod DiscardedSteps
 pub mod StepSound
 pub mod Waits
 pub mod Telling

@@ -7,15 +7,15 @@ use Rattle.o2_conf.specs.Dispatch.{Dispatch}
 use Rattle.o2_world.specs.Map.{get}
 use Rattle.o2_world.specs.World.{World, Setting, Process, Segment, Held, is_live}
 use Rattle.o2_world.specs.Holders.{process_at, with_process}
-use Rattle.o2_world.specs.Changes.{Change, Drops, Holds, Makes, resized, takes, with_change, with_changes, with_segment}
+use Rattle.o2_world.specs.Changes.{Change, Drops, Holds, Makes, Marks, Resizes, marked as remarked, resized, takes, with_change, with_changes, with_segment}
 use Rattle.o2_world.specs.Known.{held_at, holds_index, lives_at, reserves, taken_in}
 use Rattle.o2_world.specs.CallParts.{Before, Effect}
-use Rattle.o2_world.specs.Known.{Marks, marks_of}
+use Rattle.o2_world.specs.Known.{Marks as SegmentMarks, marks_of}
 use Rattle.o2_world.specs.Rulings.{full_size, held_as_code, held_by_call, made_segment}
 use Rattle.o2_world.specs.Run.{before, worked, working}
 use Rattle.o2_world.specs.Sound.{held_in, held_of, HasGoodRegisters}
 use Rattle.o2_world.specs.Tied.{AreFitChanges, IsFitDrop, IsSound, IsSwept, IsTied}
-use Rattle.o2_world.specs.Moves.{IsShared, IsFreeIndex, IsFreeing, Moves, NoneMoves, OneAliased, OneLocked, OneMade, OneSized, SomeFreed}
+use Rattle.o2_world.specs.Moves.{IsShared, IsFreeIndex, IsFreeing, Moves, NoneMoves, OneAliased, OneLocked, OneMade, OneRemade, OneSized, SomeFreed}
 use Rattle.o2_world.proofs.FitRows.{alias_fit, alloc_fit, either_false, full_is, nobody}
 use Rattle.o2_world.proofs.FitFrees.{drops_fit, each_among, free_fit}
 use Rattle.o2_world.proofs.HoldsSwept.{holds_swept}
@@ -134,13 +134,14 @@ module _ (s : Setting) (w : World) (d : Dispatch) (p : Process) (e : Effect) (at
   moves_fit (NoneMoves is) = subst (AreFitChanges v) (sym is) tt
   moves_fit (OneMade size flags i free is) = alloc_fit w d p e size flags i at live_now is free.shared
   moves_fit (OneSized name size alone is) = subst (AreFitChanges v) (sym is) (full_is size, tt)
-  moves_fit (OneLocked name count is) = subst (AreFitChanges v) (sym is) (tt, tt)
+  moves_fit (OneRemade name size alone is) = subst (AreFitChanges v) (sym is) (tt, (full_is size, (tt, tt)))
+  moves_fit (OneLocked name count lockable is) = subst (AreFitChanges v) (sym is) (tt, tt)
   moves_fit (OneAliased index i h there alone free is) = alias_fit w d p e h.name i at live_now is (names_live index h there) free.shared
   moves_fit (SomeFreed xs frees is) = subst (AreFitChanges v) (sym is) (drops xs frees)
 
   -- behind changes of a segment alone
-  segment_swept : (n : ℕ) (f : Segment → Segment) → IsSwept (with_segment v n f)
-  segment_swept n f = record { named = λ q x. swept.named q (sym (lives_same v.names n q f) ∙ x); used = swept.used }
+  segment_swept : (u : World) → IsSwept u → (n : ℕ) (f : Segment → Segment) → IsSwept (with_segment u n f)
+  segment_swept u before n f = record { named = λ q x. before.named q (sym (lives_same u.names n q f) ∙ x); used = before.used }
 
   pub made_swept : (new : Segment) (i : ℕ) → IsFreeIndex b.known b.number i
       → IsSwept (with_change (with_change v (Makes new)) (Holds d.current i (held_by_call w.next_name)))
@@ -173,8 +174,13 @@ module _ (s : Setting) (w : World) (d : Dispatch) (p : Process) (e : Effect) (at
   unfolding with_changes
   moves_swept (NoneMoves is) = subst SweptBy (sym is) (λ _. swept)
   moves_swept (OneMade size flags i free is) = subst SweptBy (sym is) (λ _. made_swept (made_segment size flags) i free)
-  moves_swept (OneSized name size alone is) = subst SweptBy (sym is) (λ _. segment_swept name (λ (x : Segment). record x { bytes = resized (full_size size) x.bytes }))
-  moves_swept (OneLocked name count is) = subst SweptBy (sym is) (λ _. segment_swept name (λ (x : Segment). record x { lock = count }))
+  moves_swept (OneSized name size alone is) = subst SweptBy (sym is) (λ _. segment_swept v swept name (λ (x : Segment). record x { bytes = resized (full_size size) x.bytes }))
+  moves_swept (OneRemade name size alone is) =
+      let u = with_change v (Marks name false) in
+      let x = with_change u (Resizes name (full_size size)) in
+      subst SweptBy (sym is)
+      (λ _. segment_swept x (segment_swept u (segment_swept v swept name (remarked false)) name (λ (y : Segment). record y { bytes = resized (full_size size) y.bytes })) name (λ (y : Segment). record y { lock = 1 }))
+  moves_swept (OneLocked name count lockable is) = subst SweptBy (sym is) (λ _. segment_swept v swept name (λ (x : Segment). record x { lock = count }))
   moves_swept (OneAliased index i h there alone free is) = subst SweptBy (sym is) (λ _. alias_swept h.name i free)
   moves_swept (SomeFreed xs frees is) = subst SweptBy (sym is) (λ none. freed_swept xs none)
 
@@ -191,9 +197,9 @@ module _ (s : Setting) (w : World) (d : Dispatch) (p : Process) (e : Effect) (at
       go true is f = absurd (cc)
       go false is f = f
 
-  marked : (o : Option Segment) (m : Marks) → option_map marks_of o ≡ Some m → (x : Segment) × (o ≡ Some x) × (x.shared ≡ m.shared)
+  marked : (o : Option Segment) (m : SegmentMarks) → option_map marks_of o ≡ Some m → (x : Segment) × (o ≡ Some x) × (x.shared ≡ m.shared)
   marked None m f = absurd (cc)
-  marked (Some x) m f = let z : m ≡ marks_of x = cc in (x, refl, sym (ap (λ (y : Marks). y.shared) z))
+  marked (Some x) m f = let z : m ≡ marks_of x = cc in (x, refl, sym (ap (λ (y : SegmentMarks). y.shared) z))
 
   pub shared_there : (n i : ℕ) (s : IsShared b.known n i)
       → (held_in v.processes (n - 1) i ≡ Some s.held) × ((y : Segment) × (get v.names s.held.name ≡ Some y) × (y.shared ≡ true))

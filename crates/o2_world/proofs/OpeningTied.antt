@@ -57,6 +57,7 @@ one_name modules names made i h k apart big a b = go (is_common_at modules a.pla
 pub record Ties (modules : ℕ → Loaded) (b : Built) : Type 0 where
   pub below : (q : ℕ) → is_some (get b.names q) ≡ true → q < b.next_name
   pub sized : (q : ℕ) (s : Segment) → get b.names q ≡ Some s → HasSize s
+  pub kept : (q : ℕ) (s : Segment) → get b.names q ≡ Some s → s.discarded ≡ false
   pub held : (place i : ℕ) (h : Held) → held_in b.processes place i ≡ Some h → IsGood b.names h
   pub so_far : (i : ℕ) (h : Held) → get b.held i ≡ Some h → IsGood b.names h
   made : (place number name : ℕ) → name_in b.made place number ≡ Some name → IsMade b.names (rights_at modules place number) name
@@ -268,6 +269,7 @@ module _ (modules : ℕ → Loaded) (b : Built) (h : Holding) (whole : IsWhole m
   named_ties none = record {
     below = lives_below b.names b.next_name g ties.below;
     sized = λ q s e. size q s (was b.names b.next_name g ties.below q s e);
+    kept = λ q s e. keep q s (was b.names b.next_name g ties.below q s e);
     held = λ place i x e. still_good b.names b.next_name g ties.below x (ties.held place i x e);
     so_far = held_more names b.held h.index (held_by_load b.next_name h.rights) good_new (λ j x e. still_good b.names b.next_name g ties.below x (ties.so_far j x e));
     made = made_after;
@@ -279,6 +281,10 @@ module _ (modules : ℕ → Loaded) (b : Built) (h : Holding) (whole : IsWhole m
       size q s (inl e) = ties.sized q s e
       size q s (inr e) = subst HasSize e.1 (whole.some, whole.most)
 
+      keep : (q : ℕ) (s : Segment) → (get b.names q ≡ Some s) ⊎ ((b.next_name ≡ q) × (segment_of h ≡ s)) → s.discarded ≡ false
+      keep q s (inl e) = ties.kept q s e
+      keep q s (inr e) = ap (λ (x : Segment). x.discarded) (sym e.1)
+
   shared_ties : (name : ℕ) → h.common ≡ true → name_in b.made h.place h.number ≡ Some name → Ties modules (holds b h name)
   shared_ties name common e =
       let m = ties.made h.place h.number name e in
@@ -286,6 +292,7 @@ module _ (modules : ℕ → Loaded) (b : Built) (h : Holding) (whole : IsWhole m
       record {
         below = ties.below;
         sized = ties.sized;
+        kept = ties.kept;
         held = ties.held;
         so_far = held_more b.names b.held h.index (held_by_load name h.rights) good ties.so_far;
         made = ties.made;
@@ -325,6 +332,7 @@ started_ties : (modules : ℕ → Loaded) (pid : ℕ) (s : Start) (b : Built) �
 started_ties modules pid s b ties = record {
   below = ties.below;
   sized = ties.sized;
+  kept = ties.kept;
   held = λ place i h e. either_of (behind b.processes _ place i h e) (ties.held place i h) (ties.so_far i h);
   so_far = λ i h e. absurd (cc);
   made = ties.made;
@@ -339,6 +347,7 @@ pub ties_first : (modules : ℕ → Loaded) → Ties modules nothing_built
 ties_first modules = record {
   below = λ q e. absurd (cc);
   sized = λ q s e. absurd (cc);
+  kept = λ q s e. absurd (cc);
   held = λ place i h e. absurd (cc);
   so_far = λ i h e. absurd (cc);
   made = λ place number name e. absurd (cc);

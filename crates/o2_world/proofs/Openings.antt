@@ -1,10 +1,11 @@
 -- The world before the first step is sound, and told by its lines.
 use Rattle.std.proofs.Common.{◌≡◌, ℕ, Bool, true, false, List, [], ◌∷◌, map, refl, ap, sym, arith}
-use Rattle.std.specs.Prelude.{Result, Ok, Err}
+use Rattle.std.specs.Prelude.{Result, Ok, Err, Some}
 use Rattle.o2_conf.specs.declared.script.Word.{Word}
 use Rattle.o2_base.specs.declared.faults.ModuleFault.{ModuleFault}
-use Rattle.o2_world.specs.World.{World, Setting, Process, is_live}
+use Rattle.o2_world.specs.World.{World, Setting, Process, Segment, is_live}
 use Rattle.o2_base.specs.Selectors.{selector_of}
+use Rattle.o2_world.specs.Map.{get}
 use Rattle.o2_world.specs.Starts.{Loaded, Start, Built, nothing_built, all_started, for_the_run, world_of, where_started, opening_of}
 use Rattle.o2_world.specs.FitStarts.{ShareNoIndex, AreFit, AreOf}
 use Rattle.o2_world.specs.Tied.{IsSound, AreUsed}
@@ -35,6 +36,7 @@ sound_between modules reserved script budget input b apart between ties = record
     registers = λ place p e lives. between.stands.registers place p e;
   };
   swept = record { named = named_between b between; used = all_stay b.processes reserved };
+  discarded = record { each = λ q s e gone. absurd (not_both s.discarded gone (ties.kept q s e)) };
 }
 
 pub opening_sound : (modules : ℕ → Loaded) (s : Setting) (reserved : List (ℕ × ℕ)) (script : List Word) (input : List ℕ) (starts : List Start) (w : World)
@@ -50,6 +52,15 @@ opening_sound modules s reserved script input starts w apart fit of e =
         → SoFar (λ (b : Built). IsBetween b × Ties modules b) r
     two (Ok b) x y = (x, y)
     two (Err fault) x y = tt
+
+-- nothing is discarded yet
+pub opening_whole : (modules : ℕ → Loaded) (s : Setting) (reserved : List (ℕ × ℕ)) (script : List Word) (input : List ℕ) (starts : List Start) (w : World)
+    → AreOf modules starts → opening_of s reserved script input starts ≡ Ok w → (q : ℕ) (z : Segment) → get w.names q ≡ Some z → z.discarded ≡ false
+unfolding all_started
+opening_whole modules s reserved script input starts w of e =
+    let ties : SoFar (Ties modules) (all_started s.segments starts) = all_so_far (Ties modules) _ s.segments starts (Ok nothing_built) (ties_kept modules) of (ties_first modules) in
+    opened (λ (v : World). (q : ℕ) (z : Segment) → get v.names q ≡ Some z → z.discarded ≡ false) (Ties modules) reserved script s.budget input (all_started s.segments starts) w
+    (λ b t. t.kept) ties e
 
 -- the world has the indexes reserved that the opening names
 pub opening_reserves : (s : Setting) (reserved : List (ℕ × ℕ)) (script : List Word) (input : List ℕ) (starts : List Start) (w : World)

@@ -8,7 +8,7 @@ use Rattle.o2_world.specs.Changes.{Change, Makes, Resizes, Locks, Marks, Holds, 
 use Rattle.o2_world.specs.CallParts.{Before, Effect}
 use Rattle.o2_world.specs.Run.{all_changes}
 use Rattle.o2_world.specs.World.{is_live}
-use Rattle.o2_world.specs.Moves.{AreOwn, Moves, NoneMoves, OneAliased, OneLocked, OneMade, OneSized, SomeFreed}
+use Rattle.o2_world.specs.Moves.{AreOwn, Moves, NoneMoves, OneAliased, OneLocked, OneMade, OneRemade, OneSized, SomeFreed}
 
 -- The dispatch, whatever changes.
 
@@ -176,6 +176,7 @@ pub moves_own : (b : Before) (cpu : Cpu) (cs : List Change) â†’ Moves b cpu cs â
 moves_own b cpu cs (NoneMoves is) = subst (AreOwn b.number) (sym is) tt
 moves_own b cpu cs (OneMade size flags i free is) = subst (AreOwn b.number) (sym is) (tt, (refl, tt))
 moves_own b cpu cs (OneSized name size alone is) = subst (AreOwn b.number) (sym is) (tt, tt)
-moves_own b cpu cs (OneLocked name count is) = subst (AreOwn b.number) (sym is) (tt, tt)
+moves_own b cpu cs (OneRemade name size alone is) = subst (AreOwn b.number) (sym is) (tt, (tt, (tt, tt)))
+moves_own b cpu cs (OneLocked name count lockable is) = subst (AreOwn b.number) (sym is) (tt, tt)
 moves_own b cpu cs (OneAliased index i h there alone free is) = subst (AreOwn b.number) (sym is) (refl, tt)
 moves_own b cpu cs (SomeFreed xs frees is) = subst (AreOwn b.number) (sym is) (drops_own b.number xs)

@@ -1,6 +1,6 @@
 -- All changes of a call on a huge allocation are so, where each kind of them is.
 use Rattle.std.proofs.Common.{◌≡◌, ◌⊎◌, ℕ, ◌+◌, ◌==◌, Bool, true, false, List, [], ◌∷◌, ◌++◌, Option, Some, None, if◌then◌else◌, sym, subst}
-use Rattle.o2_world.specs.World.{Held, Segment}
+use Rattle.o2_world.specs.World.{Held}
 use Rattle.o2_isa.specs.declared.cpu.Cpu.{Cpu}
 use Rattle.o2_world.specs.Changes.{Change, Makes, Resizes, Holds, Drops, Reserves}
 use Rattle.o2_world.specs.Known.{Known, Marks}
@@ -20,7 +20,7 @@ all_append P (x ∷ xs) ys a b = (a.0, all_append P xs ys a.1 b)
 
 -- each kind of change is so, of those who hold the run
 pub record PartsAre (b : Before) (P : Change → Type 0) : Type 0 where
-  pub makes : (s : Segment) → P (Makes s)
+  pub makes : (size flags : ℕ) → P (Makes (made_segment size flags))
   pub resizes : (name size : ℕ) → P (Resizes name size)
   pub holds : (q : ℕ × ℕ) (i : ℕ) (h : Held) → IsHolder b q → P (Holds q.0 i h)
   pub drops : (i count : ℕ) → P (Drops b.number i count)
@@ -35,7 +35,7 @@ module _ (b : Before) (P : Change → Type 0) (parts : PartsAre b P) where
   members_all name first count flags ps [] zs holders = tt
   members_all name first count flags ps (i ∷ is) [] holders = tt
   members_all name first count flags ps (i ∷ is) (z ∷ zs) holders = (
-    parts.makes (made_segment z flags),
+    parts.makes z flags,
     all_append P (all_hold name first count i ps) (new_members (name + 1) first count flags ps is zs) (holds_all name first count i ps holders) (members_all (name + 1) first count flags ps is zs holders),
   )
 

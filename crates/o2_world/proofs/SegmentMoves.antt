@@ -1,5 +1,5 @@
 -- What each call on segments changes, by its shape.
-use Rattle.std.proofs.Common.{◌≡◌, ◌≢◌, ◌⊎◌, inl, inr, ℕ, zero, suc, ◌+◌, ◌<◌, ◌≤◌, ◌==◌, ◌/◌, ◌%◌, nat_lt, nat_le, not, ◌&&◌, ◌||◌, Bool, true, false, cond, List, [], ◌∷◌, Option, Some, None, if◌then◌else◌, ap, ◌∙◌, refl, arith, subst}
+use Rattle.std.proofs.Common.{◌≡◌, ◌≢◌, ◌⊎◌, inl, inr, ℕ, zero, suc, ◌+◌, ◌-◌, ◌<◌, ◌≤◌, ◌==◌, ◌/◌, ◌%◌, nat_lt, nat_le, not, ◌&&◌, ◌||◌, Bool, true, false, cond, List, [], ◌∷◌, Option, Some, None, if◌then◌else◌, ap, ◌∙◌, refl, arith, subst}
 use Rattle.std.specs.Prelude.{is_some, filter, map, min}
 use Rattle.o2_desc.specs.Bits.{is_writable}
 use Rattle.o2_desc.specs.Choice.{IsChosen, chosen}
@@ -8,17 +8,17 @@ use Rattle.o2_isa.specs.declared.cpu.Cpu.{Cpu}
 use Rattle.o2_isa.specs.Presence.{SameSelectors}
 use Rattle.o2_isa.specs.View.{is_local}
 use Rattle.o2_world.specs.World.{Held}
-use Rattle.o2_world.specs.Changes.{Drops}
+use Rattle.o2_world.specs.Changes.{Drops, Locks}
 use Rattle.o2_world.specs.Known.{Known, Marks}
 use Rattle.o2_world.specs.CallParts.{Before}
 use Rattle.o2_world.specs.Rulings.{Ruling, aliasing_at, aliasing_of, allocation, allocation_at, by_load, dropped_indexes, free_index, freed_cpu, freeing, freeing_cpu}
 use Rattle.o2_world.specs.Rulings.{freeing_of, full_size, grants, held_under, in_use, indexes, is_alias, is_discardable, is_gone, is_in_run, is_index, is_last, is_later, keeps_its_size}
 use Rattle.o2_world.specs.Rulings.{locking_of, locking_with, members, reallocation_of, reallocation_with, refusal, region_by, sizing_of, sizing_with}
-use Rattle.o2_world.specs.Rulings.{unlocking_of, unlocking_with}
+use Rattle.o2_world.specs.Rulings.{resizes_with, unlocking_of, unlocking_with}
 use Rattle.o2_world.specs.HugeRulings.{names_one, without}
 use Rattle.o2_world.specs.Outcomes.{gone_indexes, is_gone as is_none_left}
 use Rattle.o2_world.specs.Calls.{aliasing_by, allocation_by, freeing_by, locking_by, reallocation_by, sizing_by, unlocking_by}
-use Rattle.o2_world.specs.Moves.{AreApart, AreMembers, Each, IsFreeIndex, IsFreeing, IsHeldAlone, Moves, NoneMoves, OneAliased, OneLocked, OneMade, OneSized, OwnMoves, SomeFreed}
+use Rattle.o2_world.specs.Moves.{AreApart, AreMembers, Each, IsFreeIndex, IsFreeing, IsHeldAlone, Moves, NoneMoves, OneAliased, OneLocked, OneMade, OneRemade, OneSized, OwnMoves, SomeFreed}
 use Rattle.o2_world.specs.RowLaws.{RuledMoves}
 
 rules : (b : Before) (cpu : Cpu) (t : Bool) (r q : Ruling) → Moves b cpu r.changes → Moves b cpu q.changes → Moves b cpu (cond t r q).changes
@@ -78,7 +78,11 @@ allocation_moves b cpu size flags =
 
 resize_moves : (b : Before) (cpu : Cpu) (name size : ℕ) (o : Option Marks) → IsHeldAlone b.known b.number name → Moves b cpu (reallocation_with name (full_size size) o).changes
 resize_moves b cpu name size None alone = NoneMoves refl
-resize_moves b cpu name size (Some m) alone = rules b cpu (keeps_its_size (full_size size) m) _ _ (NoneMoves refl) (OneSized name size alone refl)
+resize_moves b cpu name size (Some m) alone = rules b cpu (keeps_its_size (full_size size) m) _ _ (NoneMoves refl) (by_mark m.discarded)
+  where
+    by_mark : (d : Bool) → Moves b cpu (resizes_with name (full_size size) d)
+    by_mark true = OneRemade name size alone refl
+    by_mark false = OneSized name size alone refl
 
 pub held_there : (k : Known) (n s : ℕ) (h : Held) → held_under k n s ≡ Some h → k.held n (s / 8) ≡ Some h
 held_there k n s h e = go (is_local s) e
@@ -109,21 +113,35 @@ size_moves : (b : Before) (cpu : Cpu) (o : Option Held) → Moves b cpu (sizing_
 size_moves b cpu None = NoneMoves refl
 size_moves b cpu (Some h) = marks_size b cpu (b.known.segment h.name)
 
-marks_lock : (b : Before) (cpu : Cpu) (name : ℕ) (o : Option Marks) → Moves b cpu (locking_with name o).changes
-marks_lock b cpu name None = NoneMoves refl
-marks_lock b cpu name (Some m) = rules b cpu (is_discardable m) _ _ (OneLocked name (min (m.lock + 1) 255) refl) (NoneMoves refl)
+marks_lock : (b : Before) (cpu : Cpu) (name : ℕ) (o : Option Marks) → b.known.segment name ≡ o → Moves b cpu (locking_with name o).changes
+marks_lock b cpu name None e = NoneMoves refl
+marks_lock b cpu name (Some m) e = rules b cpu (is_discardable m) _ _ (by_mark m.discarded refl) (NoneMoves refl)
+  where
+    by_mark : (d : Bool) → m.discarded ≡ d → Moves b cpu (cond d (refusal 157) (grants 0 (Locks name (min (m.lock + 1) 255) ∷ []))).changes
+    by_mark true is = NoneMoves refl
+    by_mark false is = OneLocked name (min (m.lock + 1) 255) (record { marks = m; segment = e; kept = inl is }) refl
 
 lock_moves : (b : Before) (cpu : Cpu) (o : Option Held) → Moves b cpu (locking_of b.known o).changes
 lock_moves b cpu None = NoneMoves refl
-lock_moves b cpu (Some h) = marks_lock b cpu h.name (b.known.segment h.name)
+lock_moves b cpu (Some h) = marks_lock b cpu h.name (b.known.segment h.name) refl
 
-marks_unlock : (b : Before) (cpu : Cpu) (name : ℕ) (o : Option Marks) → Moves b cpu (unlocking_with name o).changes
-marks_unlock b cpu name None = NoneMoves refl
-marks_unlock b cpu name (Some m) = rules b cpu (is_discardable m) _ _ (rules b cpu (m.lock == 0) _ _ (NoneMoves refl) (OneLocked name _ refl)) (NoneMoves refl)
+some_lock : (n : ℕ) → (n == 0) ≡ false → 0 < n
+some_lock n e = grind arith
+
+marks_unlock : (b : Before) (cpu : Cpu) (name : ℕ) (o : Option Marks) → b.known.segment name ≡ o → Moves b cpu (unlocking_with name o).changes
+marks_unlock b cpu name None e = NoneMoves refl
+marks_unlock b cpu name (Some m) e = rules b cpu (is_discardable m) _ _ (by_lock (m.lock == 0) refl) (NoneMoves refl)
+  where
+    less : ℕ
+    less = if nat_lt m.lock 255 then m.lock - 1 else m.lock
+
+    by_lock : (z : Bool) → (m.lock == 0) ≡ z → Moves b cpu (cond z (refusal 158) (grants 0 (Locks name less ∷ []))).changes
+    by_lock true is = NoneMoves refl
+    by_lock false is = OneLocked name less (record { marks = m; segment = e; kept = inr (some_lock m.lock is) }) refl
 
 unlock_moves : (b : Before) (cpu : Cpu) (o : Option Held) → Moves b cpu (unlocking_of b.known o).changes
 unlock_moves b cpu None = NoneMoves refl
-unlock_moves b cpu (Some h) = marks_unlock b cpu h.name (b.known.segment h.name)
+unlock_moves b cpu (Some h) = marks_unlock b cpu h.name (b.known.segment h.name) refl
 
 alias_at : (b : Before) (cpu : Cpu) (index : ℕ) (h : Held) (o : Option ℕ) → b.known.held b.number index ≡ Some h → is_in_run h ≡ false
     → free_index b.known b.number ≡ o → Moves b cpu (aliasing_at b.number h.name o).changes

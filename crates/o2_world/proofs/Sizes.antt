@@ -1,12 +1,12 @@
 -- The bytes that a step leaves to a name, before its changes, are as many as before.
-use Rattle.std.proofs.Common.{◌≡◌, ℕ, ◌+◌, ◌-◌, ◌*◌, ◌≤◌, ◌==◌, ◌&&◌, ◌||◌, nat_le, Bool, true, false, not, cond, List, [], ◌∷◌, ◌++◌, length, Option, Some, None, if◌then◌else◌, ap, sym, ◌∙◌, refl, arith, subst}
+use Rattle.std.proofs.Common.{◌≡◌, ℕ, ◌+◌, ◌≤◌, ◌==◌, ◌&&◌, ◌||◌, nat_le, Bool, true, false, not, cond, List, [], ◌∷◌, ◌++◌, length, Option, Some, None, if◌then◌else◌, ap, sym, ◌∙◌, refl, arith, subst}
 use Rattle.std.specs.Prelude.{Result, Ok, Err}
 use Rattle.std.proofs.lemmas.Grind.{common_steps}
 use Rattle.o2_isa.specs.declared.cpu.Stop.{Stop}
 use Rattle.o2_isa.specs.declared.cpu.Stop.TheVariants as stop
 use Rattle.o2_isa.specs.Parts.{put_part}
 use Rattle.o2_isa.specs.View.{View, Hold, is_writable, bound_in}
-use Rattle.o2_isa.specs.Pointers.{has_range, put_in}
+use Rattle.o2_isa.specs.Pointers.{has_range, is_for_es, put_in}
 use Rattle.o2_isa.specs.Steps.{State as Machine, state}
 use Rattle.o2_isa.specs.Step.{stepped}
 use Rattle.o2_isa.specs.declared.cpu.Outcome.TheVariants as outcome
@@ -65,11 +65,16 @@ or_cases : {P : Type 0} (a b : Bool) → (a || b) ≡ true → (a ≡ true → P
 or_cases true b e f g = f refl
 or_cases false b e f g = g e
 
-pointer_sizes : (held : ℕ → Option Hold) (f : ℕ → List ℕ) (s offset : ℕ) (part : List ℕ) → fits_at held f s offset (length part) ≡ true
-    → KeepsLengths f (put_at_pointer held f s offset part)
+right_of : (a b : Bool) → (a && b) ≡ true → b ≡ true
+right_of true b e = e
+right_of false b e = absurd (cc)
+
+pointer_sizes : (v : View) (f : ℕ → List ℕ) (s offset : ℕ) (part : List ℕ) → fits_at v f s offset (length part) ≡ true
+    → KeepsLengths f (put_at_pointer v.held f s offset part)
 unfolding put_at_pointer
-pointer_sizes held f s offset part e =
-    or_cases (length part == 0) _ e (λ none. no_sizes f offset part (bound_in held s) (none_in part none)) (λ good. put_sizes f offset part (bound_in held s) good)
+pointer_sizes v f s offset part e =
+    or_cases (length part == 0) _ e (λ none. no_sizes f offset part (bound_in v.held s) (none_in part none))
+    (λ good. put_sizes f offset part (bound_in v.held s) (right_of (is_for_es v s) _ good))
 
 -- a pointer that is good is good behind a write that keeps sizes
 still_range : (f g : ℕ → List ℕ) (ok : ℕ → Bool) (offset count : ℕ) (o : Option Hold) → KeepsLengths f g
@@ -77,32 +82,33 @@ still_range : (f g : ℕ → List ℕ) (ok : ℕ → Bool) (offset count : ℕ) 
 still_range f g ok offset count None k e = e
 still_range f g ok offset count (Some h) k e = ap (λ (n : ℕ). ok h.rights && nat_le (offset + count) n) (k.same h.name) ∙ e
 
-still_writable : (held : ℕ → Option Hold) (f g : ℕ → List ℕ) (s offset count : ℕ) → KeepsLengths f g
-    → fits_at held f s offset count ≡ true → fits_at held g s offset count ≡ true
-still_writable held f g s offset count k e = go (count == 0) e
+still_writable : (v : View) (f g : ℕ → List ℕ) (s offset count : ℕ) → KeepsLengths f g
+    → fits_at v f s offset count ≡ true → fits_at v g s offset count ≡ true
+still_writable v f g s offset count k e = go (count == 0) (is_for_es v s) e
   where
-    go : (b : Bool) → (b || has_range f is_writable offset count (bound_in held s)) ≡ true
-        → (b || has_range g is_writable offset count (bound_in held s)) ≡ true
-    go true e = refl
-    go false e = still_range f g is_writable offset count (bound_in held s) k e
+    go : (b w : Bool) → (b || (w && has_range f is_writable offset count (bound_in v.held s))) ≡ true
+        → (b || (w && has_range g is_writable offset count (bound_in v.held s))) ≡ true
+    go true w e = refl
+    go false true e = still_range f g is_writable offset count (bound_in v.held s) k e
+    go false false e = e
 
 -- Parts that fit.
 
-still_fit : (held : ℕ → Option Hold) (f g : ℕ → List ℕ) → KeepsLengths f g → (ps : List Pointer) (parts : List (List ℕ)) → AreFitParts held f ps parts
-    → AreFitParts held g ps parts
-still_fit held f g k [] [] fit = tt
-still_fit held f g k [] (part ∷ parts) fit = fit
-still_fit held f g k (p ∷ ps) [] fit = tt
-still_fit held f g k (p ∷ ps) (part ∷ parts) fit = (still_writable held f g p.selector p.offset (length part) k fit.0, still_fit held f g k ps parts fit.1)
+still_fit : (v : View) (f g : ℕ → List ℕ) → KeepsLengths f g → (ps : List Pointer) (parts : List (List ℕ)) → AreFitParts v f ps parts
+    → AreFitParts v g ps parts
+still_fit v f g k [] [] fit = tt
+still_fit v f g k [] (part ∷ parts) fit = fit
+still_fit v f g k (p ∷ ps) [] fit = tt
+still_fit v f g k (p ∷ ps) (part ∷ parts) fit = (still_writable v f g p.selector p.offset (length part) k fit.0, still_fit v f g k ps parts fit.1)
 
-pub put_all_sizes : (held : ℕ → Option Hold) (ps : List Pointer) (parts : List (List ℕ)) (f : ℕ → List ℕ) → AreFitParts held f ps parts
-    → KeepsLengths f (put_all held ps parts f)
-put_all_sizes held [] parts f fit = stays f
-put_all_sizes held (p ∷ ps) [] f fit = stays f
-put_all_sizes held (p ∷ ps) (part ∷ parts) f fit =
-    let next = put_at_pointer held f p.selector p.offset part in
-    let first = pointer_sizes held f p.selector p.offset part fit.0 in
-    behind _ _ _ first (put_all_sizes held ps parts next (still_fit held f next first ps parts fit.1))
+pub put_all_sizes : (v : View) (ps : List Pointer) (parts : List (List ℕ)) (f : ℕ → List ℕ) → AreFitParts v f ps parts
+    → KeepsLengths f (put_all v.held ps parts f)
+put_all_sizes v [] parts f fit = stays f
+put_all_sizes v (p ∷ ps) [] f fit = stays f
+put_all_sizes v (p ∷ ps) (part ∷ parts) f fit =
+    let next = put_at_pointer v.held f p.selector p.offset part in
+    let first = pointer_sizes v f p.selector p.offset part fit.0 in
+    behind _ _ _ first (put_all_sizes v ps parts next (still_fit v f next first ps parts fit.1))
 
 -- Each row keeps the sizes.
 
@@ -111,7 +117,7 @@ Keeps b e = KeepsLengths b.view.bytes e.bytes
 
 come_sizes : (r : CallRow) (b : Before) (next : ℕ) (a : ℕ → ℕ) (o : Outcome) → IsFitOutcome b.view (targets_in r.slots a) o → Keeps b (come_out r b next a o)
 come_sizes r b next a (Fails error values) fit = stays b.view.bytes
-come_sizes r b next a (Does d) fit = put_all_sizes b.view.held (targets_in r.slots a) d.parts b.view.bytes fit
+come_sizes r b next a (Does d) fit = put_all_sizes b.view (targets_in r.slots a) d.parts b.view.bytes fit
 come_sizes r b next a Waits fit = stays b.view.bytes
 come_sizes r b next a (Leaves action code) fit = stays b.view.bytes
 

@@ -53,7 +53,7 @@ moves_spare b cpu cs (SomeShared from to xs shares is) =
 moves_spare b cpu cs (OneRun moves ruled) =
     spare_by b.number cs
     (run_parts b (Spares b.number) (record {
-      makes = λ s. tt;
+      makes = λ size flags. tt;
       resizes = λ m size. tt;
       holds = λ q i h holder. tt;
       drops = λ i count. refl;
@@ -118,7 +118,7 @@ moves_reserve b cpu cs (SomeShared from to xs shares is) =
 moves_reserve b cpu cs (OneRun moves ruled) =
     reserve_by cs
     (run_parts b LeavesReserves (record {
-      makes = λ s. tt;
+      makes = λ size flags. tt;
       resizes = λ m size. tt;
       holds = λ q i h holder. tt;
       drops = λ i count. tt;

@@ -1,5 +1,5 @@
 -- What each step leaves as it is: other processes, and what is reserved for the whole run.
-use Rattle.std.proofs.Common.{◌≡◌, ◌≢◌, ℕ, ◌+◌, ◌==◌, ◌&&◌, ◌||◌, Bool, true, false, cond, List, [], ◌∷◌, if◌then◌else◌, ap, sym, ◌∙◌, refl, Option, Some, None}
+use Rattle.std.proofs.Common.{◌≡◌, ◌≢◌, ℕ, ◌+◌, ◌==◌, ◌&&◌, ◌||◌, Bool, true, false, cond, List, [], ◌∷◌, if◌then◌else◌, ap, sym, ◌∙◌, refl, subst, Option, Some, None}
 use Rattle.std.specs.Prelude.{slice_get}
 use Rattle.std.specs.List.{list_any}
 use Rattle.o2_conf.specs.Dispatch.{Dispatch}
@@ -9,13 +9,14 @@ use Rattle.o2_world.specs.Known.{is_for_the_run}
 use Rattle.o2_world.specs.Calls.{Effect}
 use Rattle.o2_world.specs.Effect.{effect}
 use Rattle.o2_world.specs.Holders.{process_at}
-use Rattle.o2_world.specs.Run.{all_changes, before, changed, worked, acted, step, chosen_step, is_over, next_dispatch}
+use Rattle.o2_world.specs.Run.{all_changes, before, changed, worked, acted, step, chosen_step, is_over, next_dispatch, ready}
 use Rattle.o2_world.specs.Giving.{GivesNothing, gives}
 use Rattle.o2_world.specs.Moves.{AreSpared}
 use Rattle.o2_world.proofs.Keeps.{other_number}
 use Rattle.o2_world.proofs.OwnChanges.{all_leave, all_other, all_reserves, changes_reserved}
 use Rattle.o2_world.proofs.Sparing.{changed_spared, moves_reserve, moves_spare, same_spared, spare_place}
 use Rattle.o2_world.proofs.StepMoves.{effect_moves}
+use Rattle.o2_world.proofs.Words.{next_ready, ready_stays}
 
 -- Other processes.
 
@@ -32,9 +33,15 @@ pub step_spared : (s : Setting) (w : World) (place : ℕ) → place + 1 ≢ (nex
 unfolding step
 step_spared s w place other = go (is_over w)
   where
-    go : (b : Bool) → AreSpared (slice_get w.processes place) (slice_get (if b then w else chosen_step s w).processes place)
+    v : World
+    v = ready w
+
+    go : (b : Bool) → AreSpared (slice_get w.processes place) (slice_get (if b then w else chosen_step s v).processes place)
     go true = same_spared (slice_get w.processes place) (slice_get w.processes place) refl
-    go false = acted_spared s w (next_dispatch s w) (process_at w.processes (next_dispatch s w).current) place other
+    go false =
+        subst (λ (ps : List Process). AreSpared (slice_get ps place) (slice_get (chosen_step s v).processes place)) (ready_stays w).processes
+        (acted_spared s v (next_dispatch s v) (process_at v.processes (next_dispatch s v).current) place
+        (subst (λ (d : Dispatch). place + 1 ≢ d.current) (sym (next_ready s w)) other))
 
 acted_other : (s : Setting) (w : World) (d : Dispatch) (o : Option Process) (place : ℕ) → place + 1 ≢ d.current
     → ((p : Process) → o ≡ Some p → list_any (gives (place + 1)) (effect (before s w d.current p)).changes ≡ false)
@@ -54,9 +61,21 @@ pub step_other : (s : Setting) (w : World) (place : ℕ) → place + 1 ≢ (next
 unfolding step
 step_other s w place other none = go (is_over w)
   where
-    go : (b : Bool) → slice_get (if b then w else chosen_step s w).processes place ≡ slice_get w.processes place
+    v : World
+    v = ready w
+
+    gives_none : (d : Dispatch) → d ≡ next_dispatch s w → (p : Process) → process_at v.processes d.current ≡ Some p
+        → list_any (gives (place + 1)) (effect (before s v d.current p)).changes ≡ false
+    gives_none d same p at =
+        subst (λ (d : Dispatch). list_any (gives (place + 1)) (effect (before s v d.current p)).changes ≡ false) (sym same)
+        (none p (ap (λ (ps : List Process). process_at ps (next_dispatch s w).current) (sym (ready_stays w).processes) ∙ (ap (λ (d : Dispatch). process_at v.processes d.current) (sym same) ∙ at)))
+
+    go : (b : Bool) → slice_get (if b then w else chosen_step s v).processes place ≡ slice_get w.processes place
     go true = refl
-    go false = acted_other s w (next_dispatch s w) (process_at w.processes (next_dispatch s w).current) place other none
+    go false =
+        acted_other s v (next_dispatch s v) (process_at v.processes (next_dispatch s v).current) place
+        (subst (λ (d : Dispatch). place + 1 ≢ d.current) (sym (next_ready s w)) other) (gives_none (next_dispatch s v) (next_ready s w))
+        ∙ ap (λ (ps : List Process). slice_get ps place) (ready_stays w).processes
 
 -- What is reserved for the whole run.
 
@@ -113,6 +132,9 @@ pub step_stays : (s : Setting) (w : World) (i : ℕ) → list_any (is_for_the_ru
 unfolding step
 step_stays s w i e = go (is_over w)
   where
-    go : (b : Bool) → list_any (is_for_the_run i) (if b then w else chosen_step s w).reserved ≡ true
+    go : (b : Bool) → list_any (is_for_the_run i) (if b then w else chosen_step s (ready w)).reserved ≡ true
     go true = e
-    go false = acted_stays s w (next_dispatch s w) (process_at w.processes (next_dispatch s w).current) i e
+    go false =
+        let v = ready w in
+        acted_stays s v (next_dispatch s v) (process_at v.processes (next_dispatch s v).current) i
+        (ap (λ (rs : List Reserve). list_any (is_for_the_run i) rs) (ready_stays w).reserved ∙ e)

@@ -14,11 +14,11 @@ use Rattle.o2_world.specs.Known.{lives_at}
 use Rattle.o2_world.specs.CallParts.{Before, Effect}
 use Rattle.o2_world.specs.Effect.{effect}
 use Rattle.o2_world.specs.Views.{segment_bytes}
-use Rattle.o2_world.specs.Run.{before, worked, working, acted, after, step, chosen_step, is_over, next_dispatch}
+use Rattle.o2_world.specs.Run.{before, worked, working, acted, after, step, chosen_step, is_over, next_dispatch, ready, with_word}
 use Rattle.o2_world.specs.Sound.{HasGoodRegisters, has_rights, held_in, held_of}
 use Rattle.o2_world.specs.Tied.{IsSound}
 use Rattle.o2_world.specs.Reach.{came, went, one_if, tells_end, holds_of, holds_at, IsThere, CanTellAll, IsTold}
-use Rattle.o2_world.specs.Moves.{AllMoves, IsHolder, Maker, OneNamed, OneRun, OwnMoves, Sharer, SomeShared, AreApart, AreOwn, Each, IsOwn, Moves, NoneMoves, OneAliased, OneLocked, OneMade, OneSized, SomeFreed}
+use Rattle.o2_world.specs.Moves.{AllMoves, IsHolder, Maker, OneNamed, OneRun, OwnMoves, Sharer, SomeShared, AreApart, AreOwn, Each, IsOwn, Moves, NoneMoves, OneAliased, OneLocked, OneMade, OneRemade, OneSized, SomeFreed}
 use Rattle.o2_world.proofs.FitFrees.{at_each, each_among}
 use Rattle.o2_world.proofs.FitShares.{changes_are, held_each, share, shares_of}
 use Rattle.o2_world.proofs.Numbers.{at_place_of, number_some}
@@ -28,6 +28,8 @@ use Rattle.o2_world.proofs.RowsTold.{IsToldBy, effect_told}
 use Rattle.o2_world.proofs.RunReach.{told_after_step}
 use Rattle.o2_world.proofs.StepMoves.{effect_moves}
 use Rattle.o2_world.proofs.StepReach.{own_at, same_at}
+use Rattle.o2_world.proofs.Words.{ready_keeps, ready_stays}
+use Rattle.o2_world.proofs.Discarding.{ready_sound}
 use Rattle.o2_world.proofs.StepSound.{next_process, step_sound}
 use Rattle.o2_world.proofs.Telling.{below, number_length, there_behind}
 use Rattle.o2_world.proofs.TiedWorld.{still_live}
@@ -260,7 +262,8 @@ module _ (s : Setting) (w : World) (p : Process) (d : Dispatch) (at : process_at
   can_tell (NoneMoves is) = subst (CanTellAll v) (sym is) tt
   can_tell (OneMade size flags i free is) = subst (CanTellAll v) (sym is) (tt, (there_now, tt))
   can_tell (OneSized name size alone is) = subst (CanTellAll v) (sym is) (tt, tt)
-  can_tell (OneLocked name count is) = subst (CanTellAll v) (sym is) (tt, tt)
+  can_tell (OneRemade name size alone is) = subst (CanTellAll v) (sym is) (tt, (tt, (tt, tt)))
+  can_tell (OneLocked name count lockable is) = subst (CanTellAll v) (sym is) (tt, tt)
   can_tell (OneAliased index i h there alone free is) = subst (CanTellAll v) (sym is) (there_now, tt)
   can_tell (SomeFreed xs frees is) =
       subst (CanTellAll v) (sym is) (drops_tell v d.current xs there_now frees.apart
@@ -323,7 +326,7 @@ module _ (s : Setting) (w : World) (p : Process) (d : Dispatch) (at : process_at
       let P : ℕ → Type 0 = λ (n : ℕ). tells_end w.lines n ≡ false in
       give_by P e.changes
       (run_parts b (GivesTo P) (record {
-        makes = λ g. tt;
+        makes = λ size flags. tt;
         resizes = λ m size. tt;
         holds = λ q i h holder. run_holder_on q holder;
         drops = λ i count. tt;
@@ -358,15 +361,22 @@ module _ (s : Setting) (w : World) (p : Process) (d : Dispatch) (at : process_at
       let t : IsToldBy d.current e = effect_told b in
       told_after_step w d p e at (all_can_tell (effect_moves b)) t.tells some t.ends gives_none told
 
+chosen_told : (s : Setting) (w : World) → is_over w ≡ false → IsSound w → IsTold w → IsTold (chosen_step s w)
+chosen_told s w runs sound told =
+    let here = next_process s w runs in
+    subst (λ (o : Option Process). IsTold (acted s w (next_dispatch s w) o)) (sym here.1) (acted_told s w here.0 (next_dispatch s w) here.1 (ap is_live here.2) sound told)
+
+-- a word tells nothing and changes no hold
+word_told : (w : World) → IsTold w → IsTold (with_word w)
+word_told w told = record { live = told.live; ended = told.ended }
+
 pub step_told : (s : Setting) (w : World) → IsSound w → IsTold w → IsTold (step s w)
 unfolding step
 step_told s w sound told = go (is_over w) refl
   where
-    go : (b : Bool) → is_over w ≡ b → IsTold (if b then w else chosen_step s w)
+    go : (b : Bool) → is_over w ≡ b → IsTold (if b then w else chosen_step s (ready w))
     go true over = told
-    go false runs =
-        let here = next_process s w runs in
-        subst (λ (o : Option Process). IsTold (acted s w (next_dispatch s w) o)) (sym here.1) (acted_told s w here.0 (next_dispatch s w) here.1 (ap is_live here.2) sound told)
+    go false runs = chosen_told s (ready w) ((ready_stays w).over ∙ runs) (ready_sound w sound) (ready_keeps {P = IsTold} word_told w told)
 
 -- what each step keeps holds along the run
 pub along : {P : World → Type 0} (s : Setting) → ((w : World) → P w → P (step s w)) → (w : World) → P w → (k : ℕ) → P (after s w k)

@@ -6,7 +6,7 @@ use Rattle.o2_isa.specs.View.{is_null, is_writable, is_readable, is_code}
 use Rattle.o2_world.specs.declared.types.State.{State}
 use Rattle.o2_world.specs.Map.{Map, at_key, get, put}
 use Rattle.o2_world.specs.World.{World, Process, Segment, Held, Reserve, is_live}
-use Rattle.o2_world.specs.Changes.{Change, Makes, Resizes, Locks, Marks, Holds, Drops, Finishes, Reserves, Frees, Names, more, fewer, resized, at_place, at_number, with_segment, with_change}
+use Rattle.o2_world.specs.Changes.{Change, Makes, Resizes, Locks, Marks, Holds, Drops, Finishes, Reserves, Frees, Names, marked, more, fewer, resized, at_place, at_number, with_segment, with_change}
 use Rattle.o2_world.specs.Sound.{held_of, held_in, has_rights, NamesHeld, HasGoodRegisters}
 use Rattle.o2_world.specs.Tied.{AreLive, has_no_flags, lives_in, HasSize, IsOwnData, AreOne, IsTied, IsUnnamed, IsFitHold, IsFitDrop, IsFitChange}
 use Rattle.o2_world.proofs.Reached.{get-put, get-place, held_at_place, held_then}
@@ -46,12 +46,12 @@ held_from ps k j g place i h e = go (place == k) refl (sym (held_at_place ps k p
     go false is f = inl (sym (if_no (place == k) _ _ is) ∙ f)
 
 -- a process of a list in which one place is changed
-record IsFrom (ps : List Process) (k place : ℕ) (f : Process → Process) (x : Process) : Type 0 where
+pub record IsFrom (ps : List Process) (k place : ℕ) (f : Process → Process) (x : Process) : Type 0 where
   pub old : Process
   pub there : slice_get ps place ≡ Some old
   pub is : (x ≡ old) ⊎ ((place ≡ k) × (x ≡ f old))
 
-place_from : (ps : List Process) (k place : ℕ) (f : Process → Process) (x : Process) → slice_get (at_place k f ps) place ≡ Some x
+pub place_from : (ps : List Process) (k place : ℕ) (f : Process → Process) (x : Process) → slice_get (at_place k f ps) place ≡ Some x
     → IsFrom ps k place f x
 place_from ps k place f x e = go (place == k) refl (slice_get ps place) refl (sym (get-place k place f ps) ∙ e)
   where
@@ -497,12 +497,26 @@ numbered w p f there tied = go (p == 0) refl
     go true is = subst P (sym (if_yes (p == 0) w.processes (at_place (p - 1) f w.processes) is)) tied
     go false is = subst P (sym (if_no (p == 0) w.processes (at_place (p - 1) f w.processes) is)) (there is)
 
+-- A mark.
+record MarkedSo (s t : Segment) : Type 0 where
+  clean : t.clean ≡ s.clean
+  shared : t.shared ≡ s.shared
+  flags : t.flags ≡ s.flags
+
+marked_so : (d : Bool) (s : Segment) → MarkedSo s (marked d s)
+marked_so true s = record { clean = refl; shared = refl; flags = refl }
+marked_so false s = record { clean = refl; shared = refl; flags = refl }
+
+marked_size : (d : Bool) (s : Segment) → HasSize s → HasSize (marked d s)
+marked_size true s h = subst (λ (k : ℕ). (0 < k) × (k ≤ 65536)) (sym (zeros_length (length s.bytes))) h
+marked_size false s h = h
+
 -- One change, by its kind.
 pub change_tied : (w : World) (c : Change) → IsFitChange w c → IsTied w → IsTied (with_change w c)
 change_tied w (Makes s) fit tied = makes_tied w s fit tied
 change_tied w (Resizes n size) fit tied = segment_tied w n (λ (s : Segment). record s { bytes = resized size s.bytes }) (λ s. refl) (λ s. refl) (λ s. refl) (λ s _. subst (λ k. (0 < k) × (k ≤ 65536)) (sym (resized_length size s.bytes)) fit) tied
 change_tied w (Locks n count) fit tied = segment_tied w n (λ (s : Segment). record s { lock = count }) (λ s. refl) (λ s. refl) (λ s. refl) (λ s h. h) tied
-change_tied w (Marks n d) fit tied = segment_tied w n (λ (s : Segment). record s { discarded = d }) (λ s. refl) (λ s. refl) (λ s. refl) (λ s h. h) tied
+change_tied w (Marks n d) fit tied = segment_tied w n (marked d) (λ s. (marked_so d s).clean) (λ s. (marked_so d s).shared) (λ s. (marked_so d s).flags) (marked_size d) tied
 change_tied w (Holds p i h) fit tied = numbered w p (put_held (more h) i) (λ some. holds_tied w p i h some fit tied) tied
 change_tied w (Drops p i count) fit tied = numbered w p (put_held (fewer count) i) (λ some. drops_tied w p i count some fit tied) tied
 change_tied w (Finishes p state) fit tied = numbered w p (λ (x : Process). record x { state = state; held = [] }) (λ _. finishes_tied w p state fit tied) tied

@@ -16,7 +16,7 @@ unfolding with_changes
 changes_tied w [] fit tied = tied
 changes_tied w (c ∷ cs) fit tied = changes_tied (with_change w c) cs fit.1 (change_tied w c fit.0 tied)
 
-kept_was : (ps : List Process) (names : Map Segment) (q : ℕ) (s : Segment) → get (kept ps names) q ≡ Some s → get names q ≡ Some s
+pub kept_was : (ps : List Process) (names : Map Segment) (q : ℕ) (s : Segment) → get (kept ps names) q ≡ Some s → get names q ≡ Some s
 kept_was ps names q s e = go (is_held ps q) (sym (get-filter (is_held ps) names q) ∙ e)
   where
     go : (b : Bool) → (if b then get names q else None) ≡ Some s → get names q ≡ Some s

@@ -6,13 +6,15 @@ use Rattle.o2_conf.specs.Dispatch.{Dispatch}
 use Rattle.o2_world.specs.Map.{get}
 use Rattle.o2_world.specs.World.{World, Setting, Process, Segment}
 use Rattle.o2_world.specs.Holders.{process_at}
-use Rattle.o2_world.specs.Changes.{Change, Makes, Resizes, Locks, Marks, Holds, Drops, Finishes, Reserves, Frees, Names, takes, resized, with_segment, with_change, with_changes, swept, with_all}
+use Rattle.o2_world.specs.Changes.{Change, Makes, Resizes, Locks, Marks, Holds, Drops, Finishes, Reserves, Frees, Names, marked, takes, resized, with_segment, with_change, with_changes, swept, with_all}
 use Rattle.o2_world.specs.Calls.{Effect}
 use Rattle.o2_world.specs.Effect.{effect}
-use Rattle.o2_world.specs.Run.{before, worked, changed, all_changes, acted, step, chosen_step, is_over, next_dispatch}
+use Rattle.o2_world.specs.Run.{before, worked, changed, all_changes, acted, step, chosen_step, is_over, next_dispatch, ready, with_word}
 use Rattle.o2_world.specs.NewNames.{UsesNewNames}
 use Rattle.o2_world.proofs.MapLemmas.{if_no}
 use Rattle.o2_world.proofs.Keeps.{bytes_there}
+use Rattle.o2_world.proofs.Words.{ready_keeps}
+use Rattle.o2_world.proofs.Discarding.{lives_still}
 use Rattle.o2_world.proofs.TiedChanges.{lives_same}
 use Rattle.o2_world.proofs.TiedSteps.{kept_live}
 
@@ -42,7 +44,7 @@ change_new : (w : World) (c : Change) → UsesNewNames w (with_change w c)
 change_new w (Makes s) = makes_new w s
 change_new w (Resizes n size) = segment_new w n (λ (s : Segment). record s { bytes = resized size s.bytes })
 change_new w (Locks n count) = segment_new w n (λ (s : Segment). record s { lock = count })
-change_new w (Marks n d) = segment_new w n (λ (s : Segment). record s { discarded = d })
+change_new w (Marks n d) = segment_new w n (marked d)
 change_new w (Holds p i h) = record { next = omega arith; lives = λ q below e. e }
 change_new w (Drops p i count) = record { next = omega arith; lives = λ q below e. e }
 change_new w (Finishes p state) = record { next = omega arith; lives = λ q below e. e }
@@ -77,10 +79,17 @@ acted_new : (s : Setting) (w : World) (d : Dispatch) (o : Option Process) → Us
 acted_new s w d None = same w
 acted_new s w d (Some p) = changed_new w d p (effect (before s w d.current p))
 
+-- a word uses no name
+word_new : (u w : World) → UsesNewNames u w → UsesNewNames u (with_word w)
+word_new u w h = record { next = h.next; lives = λ q below e. h.lives q below (sym (lives_still w.processes w.names q) ∙ e) }
+
 pub step_new : (s : Setting) (w : World) → UsesNewNames w (step s w)
 unfolding step
 step_new s w = go (is_over w)
   where
-    go : (b : Bool) → UsesNewNames w (if b then w else chosen_step s w)
+    go : (b : Bool) → UsesNewNames w (if b then w else chosen_step s (ready w))
     go true = same w
-    go false = acted_new s w (next_dispatch s w) (process_at w.processes (next_dispatch s w).current)
+    go false =
+        let v = ready w in
+        then_new w v (chosen_step s v) (ready_keeps {P = UsesNewNames w} (word_new w) w (same w))
+        (acted_new s v (next_dispatch s v) (process_at v.processes (next_dispatch s v).current))

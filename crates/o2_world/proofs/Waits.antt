@@ -14,21 +14,22 @@ use Rattle.o2_world.specs.declared.types.State.TheVariants.{Live}
 use Rattle.o2_world.specs.Map.{Map, get}
 use Rattle.o2_world.specs.World.{World, Setting, Process, Segment, is_live}
 use Rattle.o2_world.specs.Holders.{process_at, with_process}
-use Rattle.o2_world.specs.Views.{bytes_in, holds_in, segment_bytes, view_over, with_bytes}
+use Rattle.o2_world.specs.Views.{bytes_in, holds_in, is_discarded, segment_bytes, view_over, with_bytes}
 use Rattle.o2_world.specs.Known.{known_of, live_below, marks_of}
 use Rattle.o2_world.specs.CallParts.{Before, Effect, waiting}
 use Rattle.o2_world.specs.Outcomes.{CallRow, Does, Fails, Waits, Leaves, Outcome, come_out}
 use Rattle.o2_world.specs.Calls.{row_of, served_by}
 use Rattle.o2_world.specs.Effect.{answered, effect, has_trap_flag, single_stepped}
 use Rattle.o2_world.specs.Changes.{with_changes}
-use Rattle.o2_world.specs.Run.{acted, after, any_lives, before, changed, chosen_step, is_over, live_flags, next_dispatch, step}
+use Rattle.o2_world.specs.Run.{acted, after, any_lives, before, changed, chosen_step, is_over, live_flags, next_dispatch, ready, step, words_coming}
 use Rattle.o2_world.specs.Waits.{IsButDispatch, spent}
 use Rattle.o2_world.proofs.Budget.{not_over}
 use Rattle.o2_world.proofs.Keeps.{some_is}
-use Rattle.o2_world.proofs.MapLemmas.{get-map, if_no, if_yes}
+use Rattle.o2_world.proofs.MapLemmas.{get-map, if_yes}
 use Rattle.o2_world.proofs.Numbers.{at_place_of, number_some, with_is}
 use Rattle.o2_world.proofs.Serving.{by_row}
 use Rattle.o2_world.proofs.StepSound.{next_process}
+use Rattle.o2_world.proofs.Words.{next_ready, none_within, ready_at_once, ready_stays, step_runs}
 
 -- What a step is that waits.
 
@@ -110,16 +111,28 @@ wait_leaves s w d p at live waits =
 
 -- of the next step
 
-pub step_waits : (s : Setting) (w : World) (p : Process) → is_over w ≡ false → (let d = next_dispatch s w in process_at w.processes d.current ≡ Some p
-    → (effect (before s w d.current p)).waits ≡ true → IsButDispatch w (counted d) (step s w))
-unfolding step
-step_waits s w p runs at waits =
+chosen_waits : (s : Setting) (w : World) (p : Process) → is_over w ≡ false → (let d = next_dispatch s w in process_at w.processes d.current ≡ Some p
+    → (effect (before s w d.current p)).waits ≡ true → IsButDispatch w (counted d) (chosen_step s w))
+chosen_waits s w p runs at waits =
     let d = next_dispatch s w in
     let here = next_process s w runs in
     let same : here.0 ≡ p = some_is here.0 p (process_at w.processes d.current) here.1 at in
     let live : p.state ≡ Live = ap (λ (x : Process). x.state) (sym same) ∙ here.2 in
-    subst (IsButDispatch w (counted d)) (sym (if_no (is_over w) w (chosen_step s w) runs))
-    (subst (λ (o : Option Process). IsButDispatch w (counted d) (acted s w d o)) (sym at) (wait_leaves s w d p at live waits))
+    subst (λ (o : Option Process). IsButDispatch w (counted d) (acted s w d o)) (sym at) (wait_leaves s w d p at live waits)
+
+pub ready_at : (w : World) (n : ℕ) (p : Process) → process_at w.processes n ≡ Some p → process_at (ready w).processes n ≡ Some p
+ready_at w n p at = ap (λ (ps : List Process). process_at ps n) (ready_stays w).processes ∙ at
+
+pub step_waits : (s : Setting) (w : World) (p : Process) → is_over w ≡ false → (let d = next_dispatch s w in process_at w.processes d.current ≡ Some p
+    → (effect (before s (ready w) d.current p)).waits ≡ true → IsButDispatch (ready w) (counted d) (step s w))
+step_waits s w p runs at waits =
+    let v = ready w in
+    let same = next_ready s w in
+    subst (IsButDispatch v (counted (next_dispatch s w))) (sym (step_runs s w runs))
+    (subst (λ (d : Dispatch). IsButDispatch v (counted d) (chosen_step s v)) same
+    (chosen_waits s v p ((ready_stays w).over ∙ runs)
+    (ap (λ (d : Dispatch). process_at v.processes d.current) same ∙ ready_at w (next_dispatch s w).current p at)
+    (ap (λ (d : Dispatch). (effect (before s v d.current p)).waits) same ∙ waits)))
 
 -- What the same process starts from then.
 
@@ -139,7 +152,7 @@ seen : Setting → World → ℕ → Process → (ℕ → Option Segment) → �
 seen s w n p g count = record {
   number = n;
   cpu = p.cpu;
-  view = view_over (holds_in p.held) (λ k. segment_bytes (g k)) p.cpu;
+  view = view_over (holds_in p.held) (λ k. segment_bytes (g k)) (λ k. is_discarded (g k)) p.cpu;
   known = record (known_of s w) { segment = λ k. option_map marks_of (g k); count = count };
   input = w.input;
 }
@@ -159,16 +172,26 @@ turn_stays quantum flags d more here =
     let some : nat_lt 0 d.left ≡ true = grind arith in
     if_yes (nat_lt 0 d.left && lives flags d.current) d _ (rw (some, here) refl)
 
+chosen_here : (s : Setting) (w : World) (n : ℕ) → is_over w ≡ false → n ≡ (next_dispatch s w).current → lives (live_flags w.processes) n ≡ true
+chosen_here s w n runs same =
+    let some = not_over (any_lives w.processes) w.dispatch.budget runs in
+    let flags = live_flags w.processes in
+    ap (lives flags) same ∙ chosen_lives s.quantum flags w.dispatch some.0
+
+flags_there : (w v : World) (d : Dispatch) → IsButDispatch w d v → (n : ℕ) → lives (live_flags v.processes) n ≡ lives (live_flags w.processes) n
+flags_there w v d is n = ap (λ (x : World). lives (live_flags x.processes) n) is.others
+
 -- the one that is chosen lives, and goes on as long as its slice or turn has steps left
 goes_on : (s : Setting) (w v : World) (e : Dispatch) → is_over w ≡ false → (let d = next_dispatch s w in IsButDispatch w e v → e.current ≡ d.current → 0 < e.left → next_dispatch s v ≡ e)
 goes_on s w v e runs is same more =
-    let some = not_over (any_lives w.processes) w.dispatch.budget runs in
     let flags = live_flags w.processes in
-    let here = ap (lives flags) same ∙ chosen_lives s.quantum flags w.dispatch some.0 in
+    let here = chosen_here s w e.current runs same in
     ap (λ (x : World). next_dispatch s x) is.others ∙ turn_stays s.quantum flags e more here
 
-pub same_turn : (s : Setting) (w v : World) → is_over w ≡ false → (let d = next_dispatch s w in IsButDispatch w (counted d) v → 1 < d.left → next_dispatch s v ≡ counted d)
-same_turn s w v runs is more = let d = next_dispatch s w in goes_on s w v (counted d) runs is refl (omega (arith, more))
+pub same_turn : (s : Setting) (w v : World) → is_over w ≡ false → (let d = next_dispatch s w in IsButDispatch (ready w) (counted d) v → 1 < d.left → next_dispatch s v ≡ counted d)
+same_turn s w v runs is more =
+    let d = next_dispatch s w in
+    goes_on s (ready w) v (counted d) ((ready_stays w).over ∙ runs) is (ap (λ (e : Dispatch). e.current) (sym (next_ready s w))) (omega (arith, more))
 
 -- The rest of the slice or turn.
 
@@ -178,12 +201,13 @@ then_is w v u d e first second = record {
   others = second.others ∙ ap (λ (x : World). record x { names = u.names; dispatch = e }) first.others;
 }
 
-step_from : (s : Setting) (w : World) (p : Process) (d : Dispatch) → is_over w ≡ false → next_dispatch s w ≡ d → process_at w.processes d.current ≡ Some p
-    → (effect (before s w d.current p)).waits ≡ true → IsButDispatch w (counted d) (step s w)
-step_from s w p d runs is at waits =
-    subst (λ (e : Dispatch). IsButDispatch w (counted e) (step s w)) is
-    (step_waits s w p runs (subst (λ (e : Dispatch). process_at w.processes e.current ≡ Some p) (sym is) at)
-    (subst (λ (e : Dispatch). (effect (before s w e.current p)).waits ≡ true) (sym is) waits))
+step_from : (s : Setting) (w : World) (p : Process) (d : Dispatch) → is_over w ≡ false → words_coming w ≡ 0 → next_dispatch s w ≡ d
+    → process_at w.processes d.current ≡ Some p → (effect (before s w d.current p)).waits ≡ true → IsButDispatch w (counted d) (step s w)
+step_from s w p d runs wordless is at waits =
+    subst (IsButDispatch w (counted d)) (sym (step_runs s w runs ∙ ap (chosen_step s) (ready_at_once w wordless)))
+    (subst (λ (e : Dispatch). IsButDispatch w (counted e) (chosen_step s w)) is
+    (chosen_waits s w p runs (subst (λ (e : Dispatch). process_at w.processes e.current ≡ Some p) (sym is) at)
+    (subst (λ (e : Dispatch). (effect (before s w e.current p)).waits ≡ true) (sym is) waits)))
 
 still_runs : (w v : World) (e : Dispatch) → is_over w ≡ false → IsButDispatch w e v → 0 < e.budget → is_over v ≡ false
 still_runs w v e runs is more =
@@ -195,16 +219,22 @@ one_more : (k n : ℕ) → n - suc k - 1 ≡ n - suc (suc k)
 one_more k n = omega arith
 
 pub waits_through : (s : Setting) (w : World) (p : Process) → is_over w ≡ false → (let d = next_dispatch s w in process_at w.processes d.current ≡ Some p
-    → (effect (before s w d.current p)).waits ≡ true → (k : ℕ) → 0 < k → k ≤ d.left → k ≤ d.budget → IsButDispatch w (spent k d) (after s w k))
+    → (effect (before s (ready w) d.current p)).waits ≡ true → (k : ℕ) → 0 < k → k ≤ d.left → k ≤ d.budget → IsButDispatch (ready w) (spent k d) (after s w k))
 waits_through s w p runs at waits zero some few within = absurd (omega (arith, some))
 waits_through s w p runs at waits (suc zero) some few within = step_waits s w p runs at waits
 waits_through s w p runs at waits (suc (suc k)) some few within =
     let d = next_dispatch s w in
+    let u = ready w in
+    let runs_there = (ready_stays w).over ∙ runs in
     let v = after s w (suc k) in
     let e = spent (suc k) d in
     let h = waits_through s w p runs at waits (suc k) (omega arith) (omega (arith, few)) (omega (arith, within)) in
-    let next = step_from s v p e (still_runs w v e runs h (omega (arith, within))) (goes_on s w v e runs h refl (omega (arith, few)))
-    (same_there w v e d.current h ∙ at) (ap (λ (b : Before). (effect b).waits) (same_before s w v e d.current p h) ∙ waits) in
-    subst (λ (x : Dispatch). IsButDispatch w x (step s v))
+    let same : e.current ≡ (next_dispatch s u).current = ap (λ (x : Dispatch). x.current) (sym (next_ready s w)) in
+    let more : 0 < e.left = omega (arith, few) in
+    let next = step_from s v p e (still_runs u v e runs_there h (omega (arith, within)))
+    (none_within v e (ap (λ (x : World). x.dispatch) h.others) more (flags_there u v e h e.current ∙ chosen_here s u e.current runs_there same))
+    (goes_on s u v e runs_there h same more)
+    (same_there u v e d.current h ∙ ready_at w d.current p at) (ap (λ (b : Before). (effect b).waits) (same_before s u v e d.current p h) ∙ waits) in
+    subst (λ (x : Dispatch). IsButDispatch u x (step s v))
     (ap (λ (n : ℕ). record d { left = n; budget = d.budget - suc k - 1 }) (one_more k d.left) ∙ ap (λ (n : ℕ). record d { left = d.left - suc (suc k); budget = n }) (one_more k d.budget))
-    (then_is w v (step s v) e (counted e) h next)
+    (then_is u v (step s v) e (counted e) h next)

@@ -13,6 +13,7 @@ pub data Change : Type 0 where
   -- the bytes are cut, or zeros come behind them
   Resizes : (name size : ℕ) → Change
   Locks : (name count : ℕ) → Change
+  -- discarded, so that its bytes are zeros, or discarded no more
   Marks : (name : ℕ) → (discarded : Bool) → Change
   -- so many holds more of process and index; where there were none, all that is held
   Holds : (process index : ℕ) → (held : Held) → Change
@@ -26,6 +27,11 @@ pub data Change : Type 0 where
 
 abbrev pub resized : ℕ → List ℕ → List ℕ
 resized size bytes = take size bytes ++ replicate (size - length bytes) 0
+
+-- a discarded segment has zeros in place of its bytes
+abbrev pub marked : Bool → Segment → Segment
+marked true s = record s { bytes = replicate (length s.bytes) 0; discarded = true }
+marked false s = record s { discarded = false }
 
 -- holds more, and holds less
 abbrev pub more : Held → Option Held → Option Held
@@ -61,7 +67,7 @@ abbrev pub with_change : World → Change → World
 with_change w (Makes s) = record w { names = put w.next_name (Some s) w.names; next_name = w.next_name + 1 }
 with_change w (Resizes n size) = with_segment w n (λ (s : Segment). record s { bytes = resized size s.bytes })
 with_change w (Locks n count) = with_segment w n (λ (s : Segment). record s { lock = count })
-with_change w (Marks n discarded) = with_segment w n (λ (s : Segment). record s { discarded = discarded })
+with_change w (Marks n discarded) = with_segment w n (marked discarded)
 with_change w (Holds p i h) = with_held w p (λ (m : Map Held). put i (more h (get m i)) m)
 with_change w (Drops p i count) = with_held w p (λ (m : Map Held). put i (fewer count (get m i)) m)
 with_change w (Finishes p state) = record w { processes = at_number p (λ (x : Process). record x { state = state; held = [] }) w.processes }

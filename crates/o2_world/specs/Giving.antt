@@ -5,7 +5,7 @@ use Rattle.o2_world.specs.World.{World, Setting, Process}
 use Rattle.o2_world.specs.Changes.{Change, Makes, Resizes, Locks, Marks, Holds, Drops, Finishes, Reserves, Frees, Names}
 use Rattle.o2_world.specs.Holders.{process_at}
 use Rattle.o2_world.specs.Effect.{effect}
-use Rattle.o2_world.specs.Run.{before, next_dispatch}
+use Rattle.o2_world.specs.Run.{before, next_dispatch, ready}
 
 -- a change by which this process holds more
 abbrev pub gives : ℕ → Change → Bool
@@ -25,4 +25,4 @@ abbrev pub GivesNothing : Setting → World → (number : ℕ) → Type 0
 GivesNothing s w number =
     let d = next_dispatch s w in
     (p : Process) → process_at w.processes d.current ≡ Some p
-    → list_any (gives number) (effect (before s w d.current p)).changes ≡ false
+    → list_any (gives number) (effect (before s (ready w) d.current p)).changes ≡ false

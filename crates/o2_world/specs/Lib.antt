@@ -4,6 +4,7 @@ pub mod Text
 pub mod Holders
 pub mod Views
 pub mod Changes
+pub mod Discards
 pub mod Known
 pub mod CallParts
 pub mod Rulings
@@ -32,6 +33,7 @@ pub mod Tied
 pub mod NewNames
 pub mod Hello
 pub mod SegmentsWorked
+pub mod DiscardsWorked
 pub mod SharedWorked
 pub mod HugeWorked
 pub mod HeapsWorked

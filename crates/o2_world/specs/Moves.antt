@@ -39,6 +39,12 @@ pub record IsHeldAlone (k : Known) (process name : ℕ) : Type 0 where
   pub named : held.name ≡ name
   pub alone : is_in_run held ≡ false
 
+-- a segment that isn't discarded, or is locked
+pub record IsLockable (k : Known) (name : ℕ) : Type 0 where
+  pub marks : SegmentMarks
+  pub segment : k.segment name ≡ Some marks
+  pub kept : (marks.discarded ≡ false) ⊎ (0 < marks.lock)
+
 -- one hold goes of each of these indexes: all are held, none is that of CS or SS, and DS and ES are 0 where they named one that
 -- isn't held any more
 pub record IsFreeing (b : Before) (cpu : Cpu) (is : List ℕ) : Type 0 where
@@ -58,7 +64,10 @@ pub data Moves (b : Before) (cpu : Cpu) (changes : List Change) : Type 0 where
   OneMade : (size flags i : ℕ) → IsFreeIndex b.known b.number i
       → changes ≡ Makes (made_segment size flags) ∷ Holds b.number i (held_by_call b.known.next) ∷ [] → Moves b cpu changes
   OneSized : (name size : ℕ) → IsHeldAlone b.known b.number name → changes ≡ Resizes name (full_size size) ∷ [] → Moves b cpu changes
-  OneLocked : (name count : ℕ) → changes ≡ Locks name count ∷ [] → Moves b cpu changes
+  -- a discarded segment is made anew, locked once
+  OneRemade : (name size : ℕ) → IsHeldAlone b.known b.number name → changes ≡ Marks name false ∷ Resizes name (full_size size) ∷ Locks name 1 ∷ []
+      → Moves b cpu changes
+  OneLocked : (name count : ℕ) → IsLockable b.known name → changes ≡ Locks name count ∷ [] → Moves b cpu changes
   -- a segment that is held, held at a free index too
   OneAliased : (index i : ℕ) (held : Held) → b.known.held b.number index ≡ Some held → is_in_run held ≡ false → IsFreeIndex b.known b.number i
       → changes ≡ Holds b.number i (held_as_code held.name) ∷ [] → Moves b cpu changes

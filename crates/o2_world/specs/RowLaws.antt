@@ -1,9 +1,9 @@
 -- What goes for each row of the table of calls.
-use Rattle.std.specs.Prelude.{◌≡◌, ◌≢◌, ℕ, Bool, true, ◌==◌, ◌||◌, List, [], ◌∷◌, length, Option}
+use Rattle.std.specs.Prelude.{◌≡◌, ◌≢◌, ℕ, Bool, true, ◌==◌, ◌&&◌, ◌||◌, List, [], ◌∷◌, length}
 use Rattle.o2_isa.specs.declared.cpu.Cpu.{Cpu}
-use Rattle.o2_isa.specs.Pointers.{has_range}
+use Rattle.o2_isa.specs.Pointers.{has_range, is_for_es}
 use Rattle.o2_isa.specs.Presence.{SameSelectors}
-use Rattle.o2_isa.specs.View.{Hold, View, bound_in, is_writable}
+use Rattle.o2_isa.specs.View.{View, bound_in, is_writable}
 use Rattle.o2_world.specs.declared.types.Argument.{Argument}
 use Rattle.o2_world.specs.declared.types.State.TheVariants.{Live}
 use Rattle.o2_world.specs.World.{Calls, Line}
@@ -33,20 +33,20 @@ changes_of (Leaves action code) = []
 abbrev pub IsQuiet : CallRow → Type 0
 IsQuiet r = (b : Before) (a : ℕ → ℕ) → changes_of (r.outcome b a) ≡ []
 
--- so many bytes lie there in a segment that can be written; for none nothing is looked at
-abbrev pub fits_at : (ℕ → Option Hold) → (ℕ → List ℕ) → (s offset count : ℕ) → Bool
-fits_at held bytes s offset count = (count == 0) || has_range bytes is_writable offset count (bound_in held s)
+-- so many bytes lie there in a segment that may be loaded into ES and can be written; for none nothing is looked at
+abbrev pub fits_at : View → (ℕ → List ℕ) → (s offset count : ℕ) → Bool
+fits_at v bytes s offset count = (count == 0) || (is_for_es v s && has_range bytes is_writable offset count (bound_in v.held s))
 
 -- each part has a pointer, and fits there
-abbrev pub AreFitParts : (ℕ → Option Hold) → (ℕ → List ℕ) → List Pointer → (parts : List (List ℕ)) → Type 0
-AreFitParts held bytes [] [] = Unit {0}
-AreFitParts held bytes [] (part ∷ parts) = ⊥
-AreFitParts held bytes (p ∷ ps) [] = Unit {0}
-AreFitParts held bytes (p ∷ ps) (part ∷ parts) = (fits_at held bytes p.selector p.offset (length part) ≡ true) × AreFitParts held bytes ps parts
+abbrev pub AreFitParts : View → (ℕ → List ℕ) → List Pointer → (parts : List (List ℕ)) → Type 0
+AreFitParts v bytes [] [] = Unit {0}
+AreFitParts v bytes [] (part ∷ parts) = ⊥
+AreFitParts v bytes (p ∷ ps) [] = Unit {0}
+AreFitParts v bytes (p ∷ ps) (part ∷ parts) = (fits_at v bytes p.selector p.offset (length part) ≡ true) × AreFitParts v bytes ps parts
 
 abbrev pub IsFitOutcome : View → List Pointer → Outcome → Type 0
 IsFitOutcome v ps (Fails error values) = Unit {0}
-IsFitOutcome v ps (Does d) = AreFitParts v.held v.bytes ps d.parts
+IsFitOutcome v ps (Does d) = AreFitParts v v.bytes ps d.parts
 IsFitOutcome v ps Waits = Unit {0}
 IsFitOutcome v ps (Leaves action code) = Unit {0}
 

@@ -9,8 +9,8 @@ use Rattle.o2_desc.specs.Choice.{chosen}
 use Rattle.o2_isa.specs.declared.cpu.Cpu.{Cpu}
 use Rattle.o2_isa.specs.View.{is_null, is_local}
 use Rattle.o2_world.specs.World.{Segment, Held, Cause, ByLoad, ByCall, ByAlias}
-use Rattle.o2_world.specs.Changes.{Change, Makes, Resizes, Locks, Holds, Drops}
-use Rattle.o2_world.specs.Known.{Known, Marks}
+use Rattle.o2_world.specs.Changes.{Change, Makes, Resizes, Locks, Marks, Holds, Drops}
+use Rattle.o2_world.specs.Known.{Known, Marks as SegmentMarks}
 
 pub record Ruling : Type 0 where
   pub error : ℕ
@@ -68,7 +68,8 @@ allocation k n size flags =
     else (if nat_le k.most k.count then refusal 8 else allocation_at k n size flags (free_index k (region_by n flags)))
 
 -- DosReallocSeg(size, sel): 5 where sel isn't held, is an alias, lies in a run, or its segment is clean, or shared and larger
--- than the size. The segment gets the size.
+-- than the size and not sizeable (flag 8). The segment gets the size. One that was discarded is made anew: it is discarded no more, has
+-- zeros, and is locked once.
 
 abbrev pub is_alias : Cause → Bool
 is_alias ByLoad = false
@@ -79,12 +80,19 @@ is_alias ByAlias = true
 abbrev pub is_in_run : Held → Bool
 is_in_run h = not (h.reserved == 0)
 
-abbrev pub keeps_its_size : (size : ℕ) → Marks → Bool
-keeps_its_size size m = m.clean || (m.shared && nat_lt size m.size)
+abbrev pub is_sizeable : SegmentMarks → Bool
+is_sizeable m = has_bit m.flags 3
 
-abbrev pub reallocation_with : (name size : ℕ) → Option Marks → Ruling
+abbrev pub keeps_its_size : (size : ℕ) → SegmentMarks → Bool
+keeps_its_size size m = m.clean || (m.shared && (not (is_sizeable m) && nat_lt size m.size))
+
+abbrev pub resizes_with : (name size : ℕ) → (discarded : Bool) → List Change
+resizes_with name size false = Resizes name size ∷ []
+resizes_with name size true = Marks name false ∷ Resizes name size ∷ Locks name 1 ∷ []
+
+abbrev pub reallocation_with : (name size : ℕ) → Option SegmentMarks → Ruling
 reallocation_with name size None = refusal 5
-reallocation_with name size (Some m) = if keeps_its_size size m then refusal 5 else grants 0 (Resizes name size ∷ [])
+reallocation_with name size (Some m) = if keeps_its_size size m then refusal 5 else grants 0 (resizes_with name size m.discarded)
 
 abbrev pub reallocation_of : Known → (size : ℕ) → Option Held → Ruling
 reallocation_of k size None = refusal 5
@@ -156,7 +164,7 @@ freeing_cpu k n selector c = freed_cpu k n (dropped_indexes (freeing k n selecto
 
 -- DosSizeSeg(sel, psize): 5 where sel isn't held. The size is given.
 
-abbrev pub sizing_with : Option Marks → Ruling
+abbrev pub sizing_with : Option SegmentMarks → Ruling
 sizing_with None = refusal 5
 sizing_with (Some m) = grants m.size []
 
@@ -167,14 +175,18 @@ sizing_of k (Some h) = sizing_with (k.segment h.name)
 abbrev pub sizing : Known → (number selector : ℕ) → Ruling
 sizing k n selector = sizing_of k (held_under k n selector)
 
--- DosLockSeg(sel): 5 where sel isn't held or its segment isn't discardable (flag 4). Its lock count rises by 1, up to 255.
+-- DosLockSeg(sel): 5 where sel isn't held or its segment isn't discardable (flag 4); 157 where it is discarded. Its lock count rises by
+-- 1, up to 255.
 
-abbrev pub is_discardable : Marks → Bool
+abbrev pub is_discardable : SegmentMarks → Bool
 is_discardable m = has_bit m.flags 2
 
-abbrev pub locking_with : (name : ℕ) → Option Marks → Ruling
+abbrev pub locking_with : (name : ℕ) → Option SegmentMarks → Ruling
 locking_with name None = refusal 5
-locking_with name (Some m) = if is_discardable m then grants 0 (Locks name (min (m.lock + 1) 255) ∷ []) else refusal 5
+locking_with name (Some m) =
+    if is_discardable m
+    then (if m.discarded then refusal 157 else grants 0 (Locks name (min (m.lock + 1) 255) ∷ []))
+    else refusal 5
 
 abbrev pub locking_of : Known → Option Held → Ruling
 locking_of k None = refusal 5
@@ -185,7 +197,7 @@ locking k n selector = locking_of k (held_under k n selector)
 
 -- DosUnlockSeg(sel): 5 as DosLockSeg; 158 where the lock count is 0. It falls by 1, but a count of 255 stays.
 
-abbrev pub unlocking_with : (name : ℕ) → Option Marks → Ruling
+abbrev pub unlocking_with : (name : ℕ) → Option SegmentMarks → Ruling
 unlocking_with name None = refusal 5
 unlocking_with name (Some m) =
     if is_discardable m

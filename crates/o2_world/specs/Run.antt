@@ -4,9 +4,10 @@ use Rattle.std.specs.List.{list_any}
 use Rattle.o2_outer.specs.Texts.{Gains, GainsSome, GainsBetween, IsPrefix}
 use Rattle.o2_world.specs.Map.{Map}
 use Rattle.o2_world.specs.World.{World, Setting, Process, Segment, is_live}
-use Rattle.o2_conf.specs.Dispatch.{Dispatch, dispatched, counted}
+use Rattle.o2_conf.specs.Dispatch.{Dispatch, dispatched, counted, words_ahead, word_taken}
 use Rattle.o2_world.specs.Holders.{process_at, with_process, kept}
 use Rattle.o2_world.specs.Views.{view_of, with_bytes}
+use Rattle.o2_world.specs.Discards.{all_discarded}
 use Rattle.o2_world.specs.Changes.{Change, Finishes, with_all, used, told_of}
 use Rattle.o2_world.specs.Known.{known_of}
 use Rattle.o2_world.specs.Calls.{Before, Effect}
@@ -82,19 +83,38 @@ next_dispatch s w = dispatched s.quantum (live_flags w.processes) w.dispatch
 abbrev pub is_over : World → Bool
 is_over w = not (any_lives w.processes) || (w.dispatch.budget == 0)
 
+-- The words `discard` of a script that come before the next step: each is done by itself, and takes no step and no budget.
+
+-- how many come: none where the run is over
+abbrev pub words_coming : World → ℕ
+words_coming w = if is_over w then 0 else words_ahead (live_flags w.processes) w.dispatch
+
+-- the world behind the first of them
+abbrev pub with_word : World → World
+with_word w = record w { names = all_discarded w.processes w.names; dispatch = word_taken (live_flags w.processes) w.dispatch }
+
+-- behind so many
+abbrev pub words_done : ℕ → World → World
+words_done zero w = w
+words_done (suc n) w = words_done n (with_word w)
+
+-- behind all of them: the world in which the next step is done
+unfoldable pub ready : World → World
+ready w = words_done (words_coming w) w
+
 -- a step of the process that is chosen
 abbrev pub chosen_step : Setting → World → World
 chosen_step s w = let d = next_dispatch s w in acted s w d (process_at w.processes d.current)
 
--- one step of the machine; a run that is over stays as it is
+-- one step of the machine, behind the words that come before it; a run that is over stays as it is
 unfoldable pub step : Setting → World → World
-step s w = if is_over w then w else chosen_step s w
+step s w = if is_over w then w else chosen_step s (ready w)
 
 -- the next step is a DosRead of at least one byte from handle 0, with good pointers
 pub record IsReadNext (s : Setting) (w : World) : Type 0 where
   pub process : Process
   pub there : process_at w.processes (next_dispatch s w).current ≡ Some process
-  pub reads : AsksInput (before s w (next_dispatch s w).current process)
+  pub reads : AsksInput (before s (ready w) (next_dispatch s w).current process)
 
 -- after k steps
 abbrev pub after : Setting → World → ℕ → World

@@ -1,5 +1,5 @@
 -- Rows of the calls on RAM semaphores, as the definitions compute them for two processes that share a segment of 16 zeros, 8007.
-use Rattle.std.specs.Prelude.{ℕ, ◌+◌, ◌/◌, ◌%◌, Bool, false, List, [], ◌∷◌, drop, take, Option, Some, None}
+use Rattle.std.specs.Prelude.{ℕ, ◌/◌, ◌%◌, Bool, List, [], ◌∷◌, drop, take, Option, Some, None}
 use Rattle.o2_isa.specs.declared.cpu.Cpu.{Cpu}
 use Rattle.o2_world.specs.World.{World, Process}
 use Rattle.o2_world.specs.Holders.{process_at}

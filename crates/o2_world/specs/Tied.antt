@@ -1,11 +1,12 @@
 -- What holds of every world of a run, between the changes of a step too; and of each change, when it keeps that.
-use Rattle.std.specs.Prelude.{◌⊎◌, ◌≡◌, ◌≢◌, ℕ, ◌<◌, ◌≤◌, ◌/◌, ◌==◌, Bool, true, false, List, [], ◌∷◌, length, Option, Some, None, is_some, slice_get}
+use Rattle.std.specs.Prelude.{◌⊎◌, ◌≡◌, ◌≢◌, ℕ, ◌<◌, ◌≤◌, ◌/◌, ◌==◌, Bool, true, false, List, [], ◌∷◌, length, replicate, Option, Some, None, is_some, slice_get}
 use Rattle.o2_isa.specs.declared.cpu.Cpu.{Cpu}
 use Rattle.o2_isa.specs.View.{is_null, is_writable}
 use Rattle.o2_world.specs.Map.{Map, get}
 use Rattle.o2_world.specs.World.{World, Process, Segment, Held, Reserve, ByLoad, is_live}
 use Rattle.o2_world.specs.Holders.{is_held, process_at}
 use Rattle.o2_world.specs.Sound.{held_in, HasGoodRegisters}
+use Rattle.o2_world.specs.Discards.{MayBeDiscarded}
 use Rattle.o2_world.specs.Changes.{Change, Makes, Resizes, Locks, Marks, Holds, Drops, Finishes, Reserves, Frees, Names, is_used, with_change}
 
 abbrev pub lives_in : World → ℕ → Bool
@@ -60,9 +61,18 @@ pub record IsSwept (w : World) : Type 0 where
   pub named : (q : ℕ) → lives_in w q ≡ true → is_held w.processes q ≡ true
   pub used : AreUsed w.processes w.reserved
 
+-- A discarded segment is one that may be, and its bytes are zeros.
+pub record IsDiscarded (ps : List Process) (q : ℕ) (s : Segment) : Type 0 where
+  pub may_be : MayBeDiscarded ps q s
+  pub zeros : s.bytes ≡ replicate (length s.bytes) 0
+
+pub record KeepsDiscarded (ps : List Process) (names : Map Segment) : Type 0 where
+  pub each : (q : ℕ) (s : Segment) → get names q ≡ Some s → s.discarded ≡ true → IsDiscarded ps q s
+
 pub record IsSound (w : World) : Type 0 where
   pub tied : IsTied w
   pub swept : IsSwept w
+  pub discarded : KeepsDiscarded w.processes w.names
 
 -- no register names the index
 pub record IsUnnamed (c : Cpu) (i : ℕ) : Type 0 where
@@ -98,3 +108,24 @@ IsFitChange w (Names text name) = has_no_flags (get w.names name) ≡ true
 abbrev pub AreFitChanges : World → List Change → Type 0
 AreFitChanges w [] = Unit {0}
 AreFitChanges w (c ∷ cs) = IsFitChange w c × AreFitChanges (with_change w c) cs
+
+-- A change of a call leaves what is discarded so, or makes it anew: it discards nothing, and locks nothing that is discarded.
+abbrev pub IsFitLock : World → (n count : ℕ) → Type 0
+IsFitLock w n count = (s : Segment) → get w.names n ≡ Some s → s.discarded ≡ true → count ≡ 0
+
+abbrev pub SparesDiscarded : World → Change → Type 0
+SparesDiscarded w (Makes s) = s.discarded ≡ false
+SparesDiscarded w (Resizes n size) = Unit {0}
+SparesDiscarded w (Locks n count) = IsFitLock w n count
+SparesDiscarded w (Marks n true) = ⊥
+SparesDiscarded w (Marks n false) = Unit {0}
+SparesDiscarded w (Holds p i h) = Unit {0}
+SparesDiscarded w (Drops p i count) = Unit {0}
+SparesDiscarded w (Finishes p state) = is_live state ≡ false
+SparesDiscarded w (Reserves r) = Unit {0}
+SparesDiscarded w (Frees region first) = Unit {0}
+SparesDiscarded w (Names text name) = Unit {0}
+
+abbrev pub AllSpareDiscarded : World → List Change → Type 0
+AllSpareDiscarded w [] = Unit {0}
+AllSpareDiscarded w (c ∷ cs) = SparesDiscarded w c × AllSpareDiscarded (with_change w c) cs

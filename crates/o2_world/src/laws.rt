@@ -4,7 +4,11 @@ ghost use Rattle.o2_conf.specs.declared.script.Word.{Word};
 ghost use Rattle.o2_world.specs.World.{World, Setting, Reserve};
 ghost use Rattle.o2_world.specs.Starts.{Loaded, Start, opening_of};
 ghost use Rattle.o2_world.specs.FitStarts.{ShareNoIndex, AreFit, AreOf};
-ghost use Rattle.o2_world.specs.Run.{after, step, next_dispatch, is_over, steps_done, IsLast, console as console_text, report as report_text};
+ghost use Rattle.o2_world.specs.Run.{after, step, next_dispatch, is_over, ready, steps_done, with_word, words_coming, IsLast, console as console_text, report as report_text};
+ghost use Rattle.o2_world.specs.Discards.{behind_discard};
+ghost use Rattle.o2_isa.specs.declared.cpu.Purpose.TheVariants as Purpose;
+ghost use Rattle.o2_isa.specs.declared.cpu.Loaded.TheVariants.{Trap};
+ghost use Rattle.o2_world.specs.DiscardsWorked.{aliased, bytes_behind as bytes_of_discarded, given_to_two, load_behind, may_read_behind, rights_behind, size_behind, told_behind, unlocked, with_cs, with_ds, worded_hello};
 ghost use Rattle.std.specs.Prelude.{length};
 ghost use Rattle.std.specs.List.{list_any};
 ghost use Rattle.o2_conf.specs.Dispatch.{Dispatch};
@@ -84,10 +88,33 @@ pub fn opening_worlds_are_told()
 /// Each step keeps a sound world sound. What is held is a live segment of 1 to 65,536 bytes and is held at least once, and
 /// nobody may write what is clean. No name is at or above the next one. Under a shared index all hold one name, but for a
 /// library's data that each process has for itself. Each live segment is held, and each run of reserved indexes, but for those
-/// of the whole run. Texts are those of live names. A process that has ended holds nothing. Of a process that lives, CS names
+/// of the whole run. What is discarded has zeros, isn't locked, and stands in no segment register. Texts are those of live names. A process that has ended holds nothing. Of a process that lives, CS names
 /// held code and SS held writable data, both with privilege level 3, and DS and ES are null or name held data or readable code.
 pub fn each_step_keeps_a_sound_world_sound()
     ensures { (s : Setting) (w : World) → IsSound w → IsSound (step s w) }
+{}
+
+/// A word `discard` takes no step: behind it the same step comes, one word less comes before that, and no process, text, console byte, line
+/// or input has changed, nor the budget or whose turn it is.
+pub fn a_word_takes_no_step()
+    ensures step { (s : Setting) (w : World) → 0 < words_coming w → step s (with_word w) ≡ step s w }
+    ensures ready { (w : World) → 0 < words_coming w → ready (with_word w) ≡ ready w }
+    ensures fewer { (w : World) → 0 < words_coming w → words_coming (with_word w) + 1 ≡ words_coming w }
+    ensures keeps { (w : World) → let script = (with_word w).dispatch.script in
+        with_word w ≡ record w { names = (with_word w).names; dispatch = record w.dispatch { script = script } } }
+    ensures none { (w : World) → is_over w ≡ true → words_coming w ≡ 0 }
+{}
+
+/// What goes at a word is zeros behind it, and marked; all other segments are as they were. A second word changes no segment.
+pub fn a_word_discards_what_may_go()
+    ensures segments { (w : World) (n : ℕ) → get (with_word w).names n ≡ option_map (behind_discard w.processes n) (get w.names n) }
+    ensures twice { (w : World) → (with_word (with_word w)).names ≡ (with_word w).names }
+{}
+
+/// Each word keeps a sound world sound. What is discarded is discardable (flag 4), isn't clean and isn't locked, stands in no segment
+/// register of a process that lives, and its bytes are zeros, until a call makes it anew.
+pub fn each_word_keeps_a_sound_world_sound()
+    ensures { (w : World) → IsSound w → IsSound (with_word w) }
 {}
 
 /// No name is used twice: one that a step's changes make is the next name or above it, and the next name never falls.
@@ -136,6 +163,54 @@ pub fn no_run_is_longer_than_its_budget()
 pub fn the_budget_counts_the_steps()
     ensures { (s : Setting) (w : World) (k : ℕ) → w.dispatch.budget ≡ s.budget
         → ((j : ℕ) → j < k → is_over (after s w j) ≡ false) → steps_done s (after s w k) ≡ k }
+{}
+
+/// What comes of a segment of 16 bytes of 7 that a word discards: calls, loads and pointers behind it, and registers that keep it.
+pub fn discarded_segments_answer_by_their_rows()
+    ensures gone { bytes_of_discarded [] ≡ replicate 16 0 }
+    // It can't be locked before it is made anew, and is locked then.
+    ensures anew { told_behind (locks 0x27 ∷ reallocs 16 0x27 ∷ locks 0x27 ∷ unlocks 0x27 ∷ unlocks 0x27 ∷ unlocks 0x27 ∷ [])
+        ≡ text_of (codes "1 call DosLockSeg 0027 = 157" ∷ codes "1 call DosReallocSeg 0010 0027 = 0"
+        ∷ codes "1 call DosLockSeg 0027 = 0" ∷ codes "1 call DosUnlockSeg 0027 = 0"
+        ∷ codes "1 call DosUnlockSeg 0027 = 0" ∷ codes "1 call DosUnlockSeg 0027 = 158" ∷ []) }
+    ensures sized_anew { bytes_of_discarded (reallocs 32 0x27 ∷ []) ≡ replicate 32 0 }
+    // Other calls take it as any segment. An alias has no size of its own.
+    ensures calls { told_behind (sizes 0x27 ∷ unlocks 0x27 ∷ aliases 0x27 ∷ reallocs 16 0x2f ∷ reallocs 32 0x27 ∷ sizes 0x27 ∷ [])
+        ≡ text_of (codes "1 call DosSizeSeg 0027 0017:0004 = 0 00000010" ∷ codes "1 call DosUnlockSeg 0027 = 158"
+        ∷ codes "1 call DosCreateCSAlias 0027 0017:0000 = 0 002F" ∷ codes "1 hold 002F by DosCreateCSAlias"
+        ∷ codes "1 call DosReallocSeg 0010 002F = 5" ∷ codes "1 call DosReallocSeg 0020 0027 = 0"
+        ∷ codes "1 call DosSizeSeg 0027 0017:0004 = 0 00000020" ∷ []) }
+    // Loads: exception 12 for SS and 11 otherwise. LAR and LSL look at no mark, and a range of no bytes isn't looked at.
+    ensures es { load_behind Purpose.DataReg ≡ Trap 11 0x24 }
+    ensures ss { load_behind Purpose.StackReg ≡ Trap 12 0x24 }
+    ensures size { size_behind ≡ Some 16 }
+    ensures rights { rights_behind ≡ Some 0xf3 }
+    ensures bytes { may_read_behind 5 ≡ false }
+    ensures no_bytes { may_read_behind 0 ≡ true }
+    // What stands in a segment register stays: by its segment, and of each process that lives.
+    ensures ds { told_after 7 (with_word (with_ds 1 0x27 unlocked)) (locks 0x27 ∷ []) ≡ text_of (codes "1 call DosLockSeg 0027 = 0" ∷ []) }
+    ensures alias { told_after 9 (with_word (with_cs 1 0x2f aliased)) (locks 0x27 ∷ []) ≡ text_of (codes "1 call DosLockSeg 0027 = 0" ∷ []) }
+    ensures other { told_after 13 (with_word (with_ds 2 0x8007 (given_to_two 5))) (locks 0x8007 ∷ []) ≡ text_of (codes "1 call DosLockSeg 8007 = 0" ∷ []) }
+    ensures neither { told_after 13 (with_word (given_to_two 5)) (locks 0x8007 ∷ reallocs 16 0x8007 ∷ locks 0x8007 ∷ sizes 0x8007 ∷ [])
+        ≡ text_of (codes "1 call DosLockSeg 8007 = 157" ∷ codes "1 call DosReallocSeg 0010 8007 = 5"
+        ∷ codes "1 call DosLockSeg 8007 = 157" ∷ codes "1 call DosSizeSeg 8007 0017:0004 = 0 00000020" ∷ []) }
+    // A shared segment shrinks where it is sizeable (flag 8).
+    ensures sizeable { told_after 13 (with_word (given_to_two 13)) (locks 0x8007 ∷ reallocs 16 0x8007 ∷ [])
+        ≡ text_of (codes "1 call DosLockSeg 8007 = 157" ∷ codes "1 call DosReallocSeg 0010 8007 = 0" ∷ []) }
+    ensures shrinks { told_after 8 two_processes (allocs 32 10 ∷ reallocs 16 0x8007 ∷ [])
+        ≡ text_of (codes "1 call DosAllocSeg 0020 0017:0000 000A = 0 8007" ∷ codes "1 hold 8007 by DosAllocSeg"
+        ∷ codes "1 call DosReallocSeg 0010 8007 = 0" ∷ []) }
+    ensures stays { told_after 8 two_processes (allocs 32 2 ∷ reallocs 16 0x8007 ∷ [])
+        ≡ text_of (codes "1 call DosAllocSeg 0020 0017:0000 0002 = 0 8007" ∷ codes "1 hold 8007 by DosAllocSeg"
+        ∷ codes "1 call DosReallocSeg 0010 8007 = 5" ∷ []) }
+{}
+
+/// Words of a script over `hello` take no step: two come before the first, and it runs in ten steps as without them.
+pub fn words_take_no_step_of_hello()
+    ensures two { words_coming worded_hello ≡ 2 }
+    ensures over { is_over (after (hello_setting 1000000) worded_hello 10) ≡ true }
+    ensures report { report_text (after (hello_setting 1000000) worded_hello 10) ≡ hello_report }
+    ensures none_behind { words_coming (record worded_hello { dispatch = record worded_hello.dispatch { budget = 0 } }) ≡ 0 }
 {}
 
 /// The lines of calls that make, free and give segments, from the opening of `hello`.
@@ -440,7 +515,8 @@ pub fn semaphore_calls_answer_by_their_rows()
     ensures waits_untrapped { tried ((1, sets 0x8007 0) ∷ []) 1 (stepping (requests 0x8007 0 forever)) ≡ Some (record { waits = true; lines = [] }) }
 {}
 
-/// A step that waits leaves the registers, at its call, and the world as they were, but for whose turn it is and the budget.
+/// A step that waits leaves the registers, at its call, and the world as they were behind the words that come before it, but for whose
+/// turn it is and the budget.
 pub fn a_wait_changes_the_dispatch_alone()
     ensures effect { (b : Before) → (effect b).waits ≡ true → effect b ≡ waiting b }
     ensures changed { (s : Setting) (w : World) (d : Dispatch) (p : Process)
@@ -448,7 +524,7 @@ pub fn a_wait_changes_the_dispatch_alone()
         → let b = before s w d.current p in (effect b).waits ≡ true → IsButDispatch w (counted d) (changed w d p (effect b)) }
     ensures step { (s : Setting) (w : World) (p : Process) → is_over w ≡ false
         → let d = next_dispatch s w in process_at w.processes d.current ≡ Some p
-        → (effect (before s w d.current p)).waits ≡ true → IsButDispatch w (counted d) (step s w) }
+        → (effect (before s (ready w) d.current p)).waits ≡ true → IsButDispatch (ready w) (counted d) (step s w) }
 {}
 
 /// Where a step waits and the next one is of the same process, that starts from the same, so it is the same effect. It is of the same
@@ -456,17 +532,17 @@ pub fn a_wait_changes_the_dispatch_alone()
 pub fn a_wait_repeats()
     ensures turn { (s : Setting) (w : World) (p : Process) → is_over w ≡ false
         → let d = next_dispatch s w in process_at w.processes d.current ≡ Some p
-        → (effect (before s w d.current p)).waits ≡ true → 1 < d.left → next_dispatch s (step s w) ≡ counted d }
+        → (effect (before s (ready w) d.current p)).waits ≡ true → 1 < d.left → next_dispatch s (step s w) ≡ counted d }
     ensures process { (s : Setting) (w : World) (p : Process) → is_over w ≡ false
         → let d = next_dispatch s w in process_at w.processes d.current ≡ Some p
-        → (effect (before s w d.current p)).waits ≡ true → process_at (step s w).processes d.current ≡ Some p }
+        → (effect (before s (ready w) d.current p)).waits ≡ true → process_at (step s w).processes d.current ≡ Some p }
     ensures effect { (s : Setting) (w : World) (p : Process) → is_over w ≡ false
         → let d = next_dispatch s w in process_at w.processes d.current ≡ Some p
-        → (effect (before s w d.current p)).waits ≡ true → before s (step s w) d.current p ≡ before s w d.current p }
+        → (effect (before s (ready w) d.current p)).waits ≡ true → before s (step s w) d.current p ≡ before s (ready w) d.current p }
     ensures rest { (s : Setting) (w : World) (p : Process) → is_over w ≡ false
         → let d = next_dispatch s w in process_at w.processes d.current ≡ Some p
-        → (effect (before s w d.current p)).waits ≡ true
-        → (k : ℕ) → 0 < k → k ≤ d.left → k ≤ d.budget → IsButDispatch w (spent k d) (after s w k) }
+        → (effect (before s (ready w) d.current p)).waits ≡ true
+        → (k : ℕ) → 0 < k → k ≤ d.left → k ≤ d.budget → IsButDispatch (ready w) (spent k d) (after s w k) }
 {}
 
 /// A step of a process that goes on gives and takes as many holds of each process and selector as its lines tell.

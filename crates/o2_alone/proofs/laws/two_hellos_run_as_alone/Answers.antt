@@ -16,7 +16,7 @@ use Rattle.o2_world.specs.Calls.{argument, is_good, range_of, put_at_pointer, ro
 use Rattle.o2_world.specs.Outcomes.{served}
 use Rattle.o2_world.specs.Effect.{effect}
 use Rattle.o2_world.specs.Changes.{holds_run, with_changes}
-use Rattle.o2_world.specs.Run.{changed, step}
+use Rattle.o2_world.specs.Run.{changed, ready, step}
 use Rattle.o2_world.specs.Starts.{all_started}
 use Rattle.o2_alone.specs.Events.{Event, events_of}
 use Rattle.o2_alone.specs.Worked.{hello_pointers, in_turns, pieces, pointers, second_alone, two_hellos}
@@ -26,7 +26,7 @@ use Rattle.o2_alone.proofs.laws.two_hellos_run_as_alone.Goals as goal
 among_is : pointers (events_of 2 (trace in_turns two_hellos 20)) ≡ hello_pointers
 unfolding built_gates probe_of bind read_of room_of poke size_at fetched reg16 table table_0f groups mark head_of decoded valued
     pair_valued storing within pushing push call_far group_of steps_of stepped holds_name argument is_good range_of
-    put_at_pointer row_of served effect holds_run with_changes changed step all_started
+    put_at_pointer row_of served effect holds_run with_changes changed ready step all_started
 among_is = refl
 
 pub returns-clause-among : goal.returns-clause-among
@@ -35,7 +35,7 @@ returns-clause-among c = ap (λ (es : List Event). pointers (events_of 2 es)) (e
 alone_is : pointers (trace in_turns second_alone 10) ≡ hello_pointers
 unfolding built_gates probe_of bind read_of room_of poke size_at fetched reg16 table table_0f groups mark head_of decoded valued
     pair_valued storing within pushing push call_far group_of steps_of stepped holds_name argument is_good range_of
-    put_at_pointer row_of served effect holds_run with_changes changed step all_started
+    put_at_pointer row_of served effect holds_run with_changes changed ready step all_started
 alone_is = refl
 
 pub returns-clause-alone : goal.returns-clause-alone
@@ -44,7 +44,7 @@ returns-clause-alone c = ap (λ (es : List Event). pointers es) (events_are in_t
 written_is : pieces (events_of 2 (trace in_turns two_hellos 20)) ≡ codes "hello"
 unfolding built_gates probe_of bind read_of room_of poke size_at fetched reg16 table table_0f groups mark head_of decoded valued
     pair_valued storing within pushing push call_far group_of steps_of stepped holds_name argument is_good range_of
-    put_at_pointer row_of served effect holds_run with_changes changed step all_started
+    put_at_pointer row_of served effect holds_run with_changes changed ready step all_started
 written_is = refl
 
 pub returns-clause-written : goal.returns-clause-written
@@ -53,7 +53,7 @@ returns-clause-written c = ap (λ (es : List Event). pieces (events_of 2 es)) (e
 written_alone_is : pieces (trace in_turns second_alone 10) ≡ codes "hello"
 unfolding built_gates probe_of bind read_of room_of poke size_at fetched reg16 table table_0f groups mark head_of decoded valued
     pair_valued storing within pushing push call_far group_of steps_of stepped holds_name argument is_good range_of
-    put_at_pointer row_of served effect holds_run with_changes changed step all_started
+    put_at_pointer row_of served effect holds_run with_changes changed ready step all_started
 written_alone_is = refl
 
 pub returns-clause-written_alone : goal.returns-clause-written_alone

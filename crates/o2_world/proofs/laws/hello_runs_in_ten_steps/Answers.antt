@@ -17,38 +17,38 @@ use Rattle.o2_world.specs.Calls.{argument, is_good, range_of, put_at_pointer, ro
 use Rattle.o2_world.specs.Outcomes.{served}
 use Rattle.o2_world.specs.Effect.{effect}
 use Rattle.o2_world.specs.Changes.{holds_run, moved_lines, with_changes}
-use Rattle.o2_world.specs.Run.{changed, step}
+use Rattle.o2_world.specs.Run.{changed, ready, step}
 use Rattle.o2_world.specs.Starts.{all_started}
 use Rattle.o2_world.proofs.laws.hello_runs_in_ten_steps.Goals as goal
 
 pub returns-clause-over : goal.returns-clause-over
 unfolding built_gates probe_of bind read_of room_of poke size_at fetched reg16 table table_0f groups mark head_of decoded valued
     pair_valued storing within pushing push call_far group_of steps_of stepped hex4 line_text holds_name argument is_good range_of
-    put_at_pointer row_of served effect holds_run moved_lines with_changes changed step all_started digits
+    put_at_pointer row_of served effect holds_run moved_lines with_changes changed ready step all_started digits
 returns-clause-over c = refl
 
 pub returns-clause-console : goal.returns-clause-console
 unfolding built_gates probe_of bind read_of room_of poke size_at fetched reg16 table table_0f groups mark head_of decoded valued
     pair_valued storing within pushing push call_far group_of steps_of stepped hex4 line_text holds_name argument is_good range_of
-    put_at_pointer row_of served effect holds_run moved_lines with_changes changed step all_started digits
+    put_at_pointer row_of served effect holds_run moved_lines with_changes changed ready step all_started digits
 returns-clause-console c = refl
 
 pub returns-clause-report : goal.returns-clause-report
 unfolding built_gates probe_of bind read_of room_of poke size_at fetched reg16 table table_0f groups mark head_of decoded valued
     pair_valued storing within pushing push call_far group_of steps_of stepped hex4 line_text holds_name argument is_good range_of
-    put_at_pointer row_of served effect holds_run moved_lines with_changes changed step all_started digits
+    put_at_pointer row_of served effect holds_run moved_lines with_changes changed ready step all_started digits
 returns-clause-report c = refl
 
 pub returns-clause-short_console : goal.returns-clause-short_console
 unfolding built_gates probe_of bind read_of room_of poke size_at fetched reg16 table table_0f groups mark head_of decoded valued
     pair_valued storing within pushing push call_far group_of steps_of stepped hex4 line_text holds_name argument is_good range_of
-    put_at_pointer row_of served effect holds_run moved_lines with_changes changed step all_started digits
+    put_at_pointer row_of served effect holds_run moved_lines with_changes changed ready step all_started digits
 returns-clause-short_console c = refl
 
 pub returns-clause-short_report : goal.returns-clause-short_report
 unfolding built_gates probe_of bind read_of room_of poke size_at fetched reg16 table table_0f groups mark head_of decoded valued
     pair_valued storing within pushing push call_far group_of steps_of stepped hex4 line_text holds_name argument is_good range_of
-    put_at_pointer row_of served effect holds_run moved_lines with_changes changed step all_started digits
+    put_at_pointer row_of served effect holds_run moved_lines with_changes changed ready step all_started digits
 returns-clause-short_report c = refl
 
 pub returns-clause-opens : goal.returns-clause-opens

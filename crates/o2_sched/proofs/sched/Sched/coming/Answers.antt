@@ -3,7 +3,7 @@ use Rattle.std.specs.List.{list_any}
 use Rattle.o2_conf.specs.Dispatch.{Dispatch, lives}
 use Rattle.o2_sched.specs.Places.{place_dispatch}
 use Rattle.o2_conf.proofs.Choice.{chosen_lives}
-use Rattle.o2_sched.proofs.sched.Sched.next.Goals as goal
+use Rattle.o2_sched.proofs.sched.Sched.coming.Goals as goal
 
 pub returns-clause-live : goal.returns-clause-live
 returns-clause-live c =
