@@ -1,5 +1,5 @@
 -- What a plain memory of segments holds, by look-ups, and how a processor sees it.
-use Rattle.std.specs.Prelude.{◌≡◌, ◌≢◌, ℕ, Bool, true, not, List, slice_get, length, Option, Some, None, option_map}
+use Rattle.std.specs.Prelude.{◌≡◌, ◌≢◌, ℕ, Bool, true, false, not, List, slice_get, length, Option, Some, None, option_map}
 use Rattle.std.specs.Borrow.{GName}
 use Rattle.o2_isa.specs.declared.cpu.Cpu.{Cpu}
 use Rattle.o2_isa.specs.View.{View, Hold, Registers, bound_registers, simple_view, no_rest, no_hidden}
@@ -47,7 +47,7 @@ view_in b = bus_view b.plain.ghost_name b.plain.now b.pid b.holds
 
 -- what a load asks of the segment of a hold
 abbrev pub target_in : Plain → Hold → LoadTarget
-target_in p h = record { access = h.rights; present = shown_in p h.name }
+target_in p h = record { access = h.rights; present = shown_in p h.name; discarded = false }
 
 -- one segment's bytes are new, and nothing else is
 pub record PutsBytes (old new : List Segment) (name : ℕ) (bytes : List ℕ) : Type 0 where

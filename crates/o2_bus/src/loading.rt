@@ -1,7 +1,7 @@
 // The rules of a load of a segment register, over what the selector names, wherever it is held.
 ghost use Rattle.std.specs.Prelude.{◌≡◌};
 ghost use Rattle.o2_isa.specs.View.{shown_rights, refused};
-ghost use Rattle.o2_bus.specs.Loads.{service_at, passes_of, tested as tested_by, called_by, rules_of};
+ghost use Rattle.o2_bus.specs.Loads.{absent_vector, tested_there, service_at, passes_of, tested as tested_by, called_by, rules_of};
 
 use o2_base::{Selector, is_built};
 use o2_desc::Access;
@@ -14,6 +14,8 @@ pub struct LoadTarget {
     pub access: u8,
     /// Whether its bytes are in memory.
     pub present: bool,
+    /// Whether it was discarded.
+    pub discarded: bool,
 }
 
 /// The service whose gate a selector names.
@@ -55,20 +57,44 @@ fn refuses(sel: u16) -> Loaded
     Loaded::Trap(13, sel - sel % 4)
 }
 
+// The exception of a load of a segment that isn't there.
+fn vector_of(purpose: Purpose) -> u8
+    ensures { result ≡ absent_vector purpose }
+{
+    match purpose {
+        Purpose::DataReg => 11,
+        Purpose::StackReg => 12,
+        Purpose::Jump => 11,
+        Purpose::Call => 11,
+        Purpose::Return => 11,
+    }
+}
+
+// The test of presence, with the exception of a discarded segment in its place.
+#[inline(always)]
+fn test_there(purpose: Purpose, sel: u16, found: LoadTarget) -> Loaded
+    ensures { result ≡ tested_there purpose sel found }
+{
+    if found.discarded {
+        return Loaded::Trap(vector_of(purpose), sel - sel % 4);
+    }
+    if found.present {
+        Loaded::Done
+    } else {
+        Loaded::Miss(Selector(sel))
+    }
+}
+
 #[inline(always)]
 fn tested(purpose: Purpose, sel: u16, target: Option<LoadTarget>) -> Loaded
-    ensures { result ≡ tested_by sel (passes_of purpose) target }
+    ensures { result ≡ tested_by purpose sel target }
 {
     match target {
         Some(found) => {
             if !passes(purpose, found.access) {
                 return refuses(sel);
             }
-            if found.present {
-                Loaded::Done
-            } else {
-                Loaded::Miss(Selector(sel))
-            }
+            test_there(purpose, sel, found)
         }
         None => refuses(sel),
     }

@@ -92,6 +92,7 @@ fn target_of(plain: &Plain, grant: Option<Grant>) -> Option<LoadTarget>
         Some(g) => Some(LoadTarget {
             access: g.access,
             present: plain.is_shown(g.name),
+            discarded: false,
         }),
         None => None,
     }

@@ -116,6 +116,7 @@ record IsAbsent (v : View) (s : ℕ) : Type 0 where
   pub hold : Hold
   pub found_it : found v s ≡ Some hold
   pub absent : v.present hold.name ≡ false
+  pub whole : v.discarded hold.name ≡ false
 
 abbrev Probes : View → ℕ → Loaded → Loaded → Type 0
 Probes v s loaded.Done b = b ≡ loaded.Done
@@ -124,12 +125,12 @@ Probes v s (loaded.Trap n code) b = b ≡ loaded.Trap n code
 Probes v s (loaded.Gate k) b = b ≡ loaded.Gate k
 
 here_probes : (h : Filling) (v : View) (a s : ℕ) (x : Hold) → found v s ≡ Some x → Probes v s (here v a s x) (here (whole h v) a s x)
-here_probes h v a s x e = go (v.discarded x.name) (v.present x.name) refl
+here_probes h v a s x e = go (v.discarded x.name) (v.present x.name) refl refl
   where
-    go : (d b : Bool) → v.present x.name ≡ b → Probes v s (cond d (trap_of a s) (cond b loaded.Done (loaded.Miss (selector s)))) (cond d (trap_of a s) loaded.Done)
-    go true b q = refl
-    go false true q = refl
-    go false false q = (refl, refl, record { hold = x; found_it = e; absent = q })
+    go : (d b : Bool) → v.discarded x.name ≡ d → v.present x.name ≡ b → Probes v s (cond d (trap_of a s) (cond b loaded.Done (loaded.Miss (selector s)))) (cond d (trap_of a s) loaded.Done)
+    go true b w q = refl
+    go false true w q = refl
+    go false false w q = (refl, refl, record { hold = x; found_it = e; absent = q; whole = w })
 
 choose : (b : Bool) (v : View) (s : ℕ) (x y p q : Loaded) → Probes v s x p → Probes v s y q → Probes v s (cond b x y) (cond b p q)
 choose true v s x y p q a d = a
@@ -210,11 +211,11 @@ after_load : (h : Filling) (v : View) (s next : ℕ) (t : Selector) (a b : Loade
 after_load h v s next t loaded.Done b r ns p k e =
     let m = k e in
     subst (λ (z : Loaded). IsMissed v t (names_after (passed next z) (λ _. hold_name (found v s) ++ ns))) (sym p)
-    (record { hold = m.hold; found_it = m.found_it; absent = m.absent; named = later (hold_name (found v s)) ns m.hold.name m.named })
+    (record { hold = m.hold; found_it = m.found_it; absent = m.absent; whole = m.whole; named = later (hold_name (found v s)) ns m.hold.name m.named })
 after_load h v s next t (loaded.Miss u) b r ns p k e =
     let same : t ≡ selector s = cc (p.1) in
     subst (λ (z : Loaded). IsMissed v t (names_after (passed next z) (λ _. hold_name (found v s) ++ ns))) (sym p.0)
-    (record { hold = p.2.hold; found_it = subst (λ (z : Selector). found v z.0 ≡ Some p.2.hold) (sym same) p.2.found_it; absent = p.2.absent; named = first (found v s) p.2.hold ns p.2.found_it })
+    (record { hold = p.2.hold; found_it = subst (λ (z : Selector). found v z.0 ≡ Some p.2.hold) (sym same) p.2.found_it; absent = p.2.absent; whole = p.2.whole; named = first (found v s) p.2.hold ns p.2.found_it })
 after_load h v s next t (loaded.Trap n code) b r ns p k e = cc
 after_load h v s next t (loaded.Gate g) b r ns p k e = cc
 

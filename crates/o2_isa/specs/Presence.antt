@@ -52,11 +52,12 @@ loaded_names (Rights s f) v = loaded_names (f (rights_at v s)) v
 abbrev pub is_in : ℕ → List ℕ → Bool
 is_in n ns = list_any (λ m. m == n) ns
 
--- the selector's name is not present, and is one of those that the step loads
+-- the selector's name is not present, isn't discarded, and is one of those that the step loads
 pub record IsMissed (v : View) (s : Selector) (names : List ℕ) : Type 0 where
   pub hold : Hold
   pub found_it : found v s.0 ≡ Some hold
   pub absent : v.present hold.name ≡ false
+  pub whole : v.discarded hold.name ≡ false
   pub named : is_in hold.name names ≡ true
 
 -- all writes come before the first binding

@@ -1,5 +1,5 @@
 -- One name more, and one hold more, of a store with the maps of processes.
-use Rattle.std.proofs.Common.{◌≡◌, ◌≢◌, ℕ, ◌+◌, ◌<◌, ◌++◌, ◌&&◌, true, List, [], ◌∷◌, length, Option, Some, if◌then◌else◌, nat_lt, ap, sym, ◌∙◌, refl, subst, length-append, get_or}
+use Rattle.std.proofs.Common.{◌≡◌, ◌≢◌, ℕ, ◌+◌, ◌<◌, ◌++◌, ◌&&◌, true, false, List, [], ◌∷◌, length, Option, Some, if◌then◌else◌, nat_lt, ap, sym, ◌∙◌, refl, subst, length-append, get_or}
 use Rattle.std.specs.Prelude.{slice_get, not}
 use Rattle.std.proofs.lemmas.Option.{slice_get-get_or}
 use Rattle.o2_desc.specs.Bits.{is_kind}
@@ -76,11 +76,11 @@ module _ (v w : Stored) (images : ImageList) (g : Grip) (size room age : ℕ) (a
 
   pub add_segment : HasPicture images g.place g.number
       → ((pic : Pictures) (block : ℕ → List ℕ) (j : ℕ) → byte_at w.store pic block id.key j ≡ (if nat_lt j size then pic g.place g.number j else 0))
-      → attr.clean ≡ not (is_writable g.rights) → attr.shared ≡ (g.common && not (is_code g.rights)) → attr.flags ≡ 0 → attr.lock ≡ 0
+      → attr.clean ≡ not (is_writable g.rights) → attr.shared ≡ (g.common && not (is_code g.rights)) → attr.flags ≡ 0 → attr.lock ≡ 0 → attr.gone ≡ false
       → (name : ℕ) → name ≡ id.age → stored_names w images name (Some (new_segment images g size room))
-  add_segment has bytes clean shared flags lock name same =
+  add_segment has bytes clean shared flags lock gone name same =
       subst (λ (xs : List SegId). IsNamedAs w.store images (key_in xs name) (Some (new_segment images g size room))) (sym ids)
-      (named_new v.store w.store v.ids.items id _ is.stored adds young images (new_segment images g size room) g.place g.number room refl refl has bytes refl (sym clean) (sym flags) (sym lock) (sym shared) name
+      (named_new v.store w.store v.ids.items id _ is.stored adds young images (new_segment images g size room) g.place g.number room refl refl has bytes refl (sym clean) (sym flags) (sym lock) (sym shared) (sym gone) name
       (same ∙ adds.age ∙ is.stored.made))
 
 -- A hold.

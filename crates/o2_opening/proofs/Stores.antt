@@ -155,6 +155,7 @@ module _ (s t : Shelf) (ids : List SegId) (id : SegId) (e : Entry) (is : AreStor
             flags = named.flags ∙ ap (λ (z : Entry). z.attr.flags) (sym same);
             lock = named.lock ∙ ap (λ (z : Entry). z.attr.lock) (sym same);
             shared = named.shared ∙ ap (λ (z : Entry). z.attr.shared) (sym same);
+            discarded = named.discarded ∙ ap (λ (z : Entry). z.attr.gone) (sym same);
           }
 
   -- descriptors agree with it as with the store before
@@ -183,9 +184,9 @@ module _ (s t : Shelf) (ids : List SegId) (id : SegId) (e : Entry) (is : AreStor
   -- and the new name has its own
   pub named_new : (images : ImageList) (x : Segment) (m seg : ℕ) (room : ℕ) → e.image ≡ Some (m, seg) → e.size ≡ e.kept + room → HasPicture images m seg
       → ((pic : Pictures) (block : ℕ → List ℕ) (j : ℕ) → byte_at t pic block id.key j ≡ (if nat_lt j e.kept then pic m seg j else 0))
-      → x.bytes ≡ image_front images m seg e.kept ++ replicate room 0 → x.clean ≡ e.attr.clean → x.flags ≡ e.attr.flags → x.lock ≡ e.attr.lock → x.shared ≡ e.attr.shared
+      → x.bytes ≡ image_front images m seg e.kept ++ replicate room 0 → x.clean ≡ e.attr.clean → x.flags ≡ e.attr.flags → x.lock ≡ e.attr.lock → x.shared ≡ e.attr.shared → x.discarded ≡ e.attr.gone
       → (n : ℕ) → n ≡ length ids → IsNamedAs t images (key_in (ids ++ id ∷ []) n) (Some x)
-  named_new images x m seg room image size has bytes same clean flags lock shared n last =
+  named_new images x m seg room image size has bytes same clean flags lock shared gone n last =
       subst (λ (q : Option SegId). IsNamedAs t images (option_map (λ (y : SegId). y.key) q) (Some x)) (sym (ap (slice_get (ids ++ id ∷ [])) last ∙ id_last ids id)) (record {
         named = λ p. record {
           size = ap (λ (xs : List ℕ). length xs) same ∙ long ∙ sym size ∙ sym (ap (λ (z : Entry). z.size) here);
@@ -196,6 +197,7 @@ module _ (s t : Shelf) (ids : List SegId) (id : SegId) (e : Entry) (is : AreStor
           flags = flags ∙ sym (ap (λ (z : Entry). z.attr.flags) here);
           lock = lock ∙ sym (ap (λ (z : Entry). z.attr.lock) here);
           shared = shared ∙ sym (ap (λ (z : Entry). z.attr.shared) here);
+          discarded = gone ∙ sym (ap (λ (z : Entry). z.attr.gone) here);
         };
         picture = λ k a b at from.
             (let key : id.key ≡ k = cc in

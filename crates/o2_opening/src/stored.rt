@@ -1,5 +1,5 @@
 // A store and the maps of processes as the memory in which processes start.
-ghost use Rattle.std.specs.Prelude.{◌≡◌, ◌≤◌, ◌+◌, ◌<◌, ◌&&◌, IsSome, not};
+ghost use Rattle.std.specs.Prelude.{◌≡◌, ◌≤◌, ◌+◌, ◌<◌, ◌&&◌, IsSome, not, false};
 ghost use Rattle.o2_isa.specs.View.{is_code, is_writable};
 ghost use Rattle.o2_store.specs.Shelf.{entry, entry_of};
 ghost use Rattle.o2_opening.specs.Starting.{stored_seen, stored_names, IsStarting};
@@ -30,6 +30,7 @@ fn attributes(grip: &Grip) -> Attr
     ensures shared { result.shared ≡ (grip.now.common && not (is_code grip.now.rights)) }
     ensures flags { result.flags ≡ 0 }
     ensures lock { result.lock ≡ 0 }
+    ensures whole { result.gone ≡ false }
 {
     let access = Access(grip.rights);
     Attr {
@@ -37,6 +38,7 @@ fn attributes(grip: &Grip) -> Attr
         lock: 0,
         clean: !access.is_writable(),
         shared: grip.common && !access.is_code(),
+        gone: false,
     }
 }
 

@@ -1,5 +1,5 @@
 -- From the view of a bus to what its store and its tables hold.
-use Rattle.std.proofs.Common.{◌≡◌, ◌⊎◌, inl, inr, refl, sym, ◌∙◌, ap, subst, ℕ, true, false, List, [], length, get_or, arith}
+use Rattle.std.proofs.Common.{◌≡◌, ◌⊎◌, inl, inr, refl, sym, ◌∙◌, ap, subst, ℕ, true, List, [], length, get_or, arith}
 use Rattle.std.specs.Prelude.{Option, Some, None, is_some, option_map}
 use Rattle.std.specs.Borrow.{GName}
 use Rattle.std.proofs.lemmas.List.{ext_get_or}
@@ -18,7 +18,7 @@ use Rattle.o2_regions.specs.Maps.{Maps, held_at, IsProcess}
 use Rattle.o2_store.specs.Shelf.{Shelf, entry, place_of}
 use Rattle.o2_segbus.specs.declared.registers.SegmentRegisters.{SegmentRegisters}
 use Rattle.o2_segbus.specs.Settled.{IsSettled, IsSettledAt, descriptor_at, start_of}
-use Rattle.o2_segbus.specs.Seen.{AreNamed, hold_in, hold_of, size_in, present_in, bytes_in, seen_with, seen, seen_state}
+use Rattle.o2_segbus.specs.Seen.{AreNamed, hold_in, hold_of, size_in, present_in, gone_in, bytes_in, seen_with, seen, seen_state}
 use Rattle.o2_segbus.specs.Bus.{AreLoaded, AreInside, registers_of, bus_view}
 use Rattle.o2_segbus.specs.Kept.{planes}
 use Rattle.o2_segbus.specs.Registers.{register_in}
@@ -63,7 +63,7 @@ seen_by s held registers = record {
   gate = built_gates;
   size = size_in s;
   present = present_in s;
-  discarded = λ name. false;
+  discarded = gone_in s;
   bytes = bytes_in s;
   registers = registers;
   rest = no_rest;

@@ -6,7 +6,7 @@ use Rattle.o2_regions.specs.declared.held.Held.{Held}
 use Rattle.o2_regions.specs.Maps.{Maps, held_at}
 use Rattle.o2_store.specs.Shelf.{Shelf, entry}
 use Rattle.o2_segbus.specs.Settled.{descriptor_at}
-use Rattle.o2_segbus.specs.Seen.{key_of, hold_in, hold_of, size_in, present_in}
+use Rattle.o2_segbus.specs.Seen.{key_of, hold_in, hold_of, size_in, present_in, gone_in}
 use Rattle.o2_segbus.specs.Frames.{KeepsStore, KeepsMaps}
 use Rattle.o2_segbus.specs.Guards.{AreAged, AreGuarded}
 
@@ -29,6 +29,10 @@ sizes_stay s t f name = ap (λ (z : Shelf). size_in z name) f.store
 pub presence_stays : (s t : Shelf) → KeepsStore s t → (name : ℕ) → present_in t name ≡ present_in s name
 unfolding key_of
 presence_stays s t f name = ap (λ (z : Shelf). present_in z name) f.store
+
+pub marks_stay : (s t : Shelf) → KeepsStore s t → (name : ℕ) → gone_in t name ≡ gone_in s name
+unfolding key_of
+marks_stay s t f name = ap (λ (z : Shelf). gone_in z name) f.store
 
 pub ages_kept : (s t : Shelf) → KeepsStore s t → AreAged s → AreAged t
 ages_kept s t f a = subst AreAged (sym f.store) a

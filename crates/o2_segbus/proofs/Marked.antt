@@ -19,7 +19,7 @@ use Rattle.o2_segbus.specs.declared.registers.SegmentRegister.{SegmentRegister}
 use Rattle.o2_segbus.specs.declared.registers.SegmentRegisters.{SegmentRegisters}
 use Rattle.o2_segbus.specs.Registers.{with_register_in}
 use Rattle.o2_segbus.specs.Settled.{IsSettled, IsSettledAt, descriptor_at}
-use Rattle.o2_segbus.specs.Seen.{hold_in, hold_of, seen_with, size_in, present_in, bytes_in, AreNamed}
+use Rattle.o2_segbus.specs.Seen.{hold_in, hold_of, seen_with, size_in, present_in, gone_in, bytes_in, AreNamed}
 use Rattle.o2_segbus.specs.Bus.{held_under, IsLoadedAs, IsLoaded, AreLoaded, registers_of, bus_hidden, bus_view}
 use Rattle.o2_segbus.specs.Kept.{bit, entries_told, held_told, lengths_of, marks_told, numbers_told, ranges_told}
 use Rattle.o2_segbus.specs.Marking.{with_mark, with_mark_of}
@@ -128,7 +128,7 @@ shown_by g t s m held lengths pid x = record {
   gate = built_gates;
   size = size_in s;
   present = present_in s;
-  discarded = λ name. false;
+  discarded = gone_in s;
   bytes = bytes_in s;
   registers = record { es = bound_in (held pid) x.es.selector; cs = bound_in (held pid) x.cs.selector; ss = bound_in (held pid) x.ss.selector; ds = bound_in (held pid) x.ds.selector };
   rest = record no_rest {

@@ -69,19 +69,21 @@ image_same (Some o) None xs ys e = absurd (let n : 1 ≡ 0 = ap (at 0) e in omeg
 image_same (Some o) (Some q) xs ys e =
     (ap (λ (a : ℕ). Some (a, o.1)) (ap (at 1) e) ∙ ap (λ (a : ℕ). Some (q.0, a)) (ap (at 2) e), ap (λ (l : List ℕ). tail (tail (tail l))) e)
 
-abbrev entry_by : ℕ → ℕ → ℕ → Option (ℕ × ℕ) → ℕ → ℕ → Bool → Bool → Entry
-entry_by age size kept image flags lock clean shared = record { age = age; size = size; kept = kept; image = image; attr = record { flags = flags; lock = lock; clean = clean; shared = shared } }
+abbrev entry_by : ℕ → ℕ → ℕ → Option (ℕ × ℕ) → ℕ → ℕ → Bool → Bool → Bool → Entry
+entry_by age size kept image flags lock clean shared gone = record { age = age; size = size; kept = kept; image = image; attr = record { flags = flags; lock = lock; clean = clean; shared = shared; gone = gone } }
 
-entry_same : (x y : Entry) → x.age ≡ y.age → x.size ≡ y.size → x.kept ≡ y.kept → x.image ≡ y.image → x.attr.flags ≡ y.attr.flags → x.attr.lock ≡ y.attr.lock → x.attr.clean ≡ y.attr.clean → x.attr.shared ≡ y.attr.shared → x ≡ y
-entry_same x y a b c d e f g h =
-    ap (λ (z : ℕ). entry_by z x.size x.kept x.image x.attr.flags x.attr.lock x.attr.clean x.attr.shared) a
-    ∙ (ap (λ (z : ℕ). entry_by y.age z x.kept x.image x.attr.flags x.attr.lock x.attr.clean x.attr.shared) b
-    ∙ (ap (λ (z : ℕ). entry_by y.age y.size z x.image x.attr.flags x.attr.lock x.attr.clean x.attr.shared) c
-    ∙ (ap (λ (z : Option (ℕ × ℕ)). entry_by y.age y.size y.kept z x.attr.flags x.attr.lock x.attr.clean x.attr.shared) d
-    ∙ (ap (λ (z : ℕ). entry_by y.age y.size y.kept y.image z x.attr.lock x.attr.clean x.attr.shared) e
-    ∙ (ap (λ (z : ℕ). entry_by y.age y.size y.kept y.image y.attr.flags z x.attr.clean x.attr.shared) f
-    ∙ (ap (λ (z : Bool). entry_by y.age y.size y.kept y.image y.attr.flags y.attr.lock z x.attr.shared) g
-    ∙ ap (λ (z : Bool). entry_by y.age y.size y.kept y.image y.attr.flags y.attr.lock y.attr.clean z) h))))))
+entry_same : (x y : Entry) → x.age ≡ y.age → x.size ≡ y.size → x.kept ≡ y.kept → x.image ≡ y.image → x.attr.flags ≡ y.attr.flags → x.attr.lock ≡ y.attr.lock → x.attr.clean ≡ y.attr.clean → x.attr.shared ≡ y.attr.shared
+    → x.attr.gone ≡ y.attr.gone → x ≡ y
+entry_same x y a b c d e f g h i =
+    ap (λ (z : ℕ). entry_by z x.size x.kept x.image x.attr.flags x.attr.lock x.attr.clean x.attr.shared x.attr.gone) a
+    ∙ (ap (λ (z : ℕ). entry_by y.age z x.kept x.image x.attr.flags x.attr.lock x.attr.clean x.attr.shared x.attr.gone) b
+    ∙ (ap (λ (z : ℕ). entry_by y.age y.size z x.image x.attr.flags x.attr.lock x.attr.clean x.attr.shared x.attr.gone) c
+    ∙ (ap (λ (z : Option (ℕ × ℕ)). entry_by y.age y.size y.kept z x.attr.flags x.attr.lock x.attr.clean x.attr.shared x.attr.gone) d
+    ∙ (ap (λ (z : ℕ). entry_by y.age y.size y.kept y.image z x.attr.lock x.attr.clean x.attr.shared x.attr.gone) e
+    ∙ (ap (λ (z : ℕ). entry_by y.age y.size y.kept y.image y.attr.flags z x.attr.clean x.attr.shared x.attr.gone) f
+    ∙ (ap (λ (z : Bool). entry_by y.age y.size y.kept y.image y.attr.flags y.attr.lock z x.attr.shared x.attr.gone) g
+    ∙ (ap (λ (z : Bool). entry_by y.age y.size y.kept y.image y.attr.flags y.attr.lock y.attr.clean z x.attr.gone) h
+    ∙ ap (λ (z : Bool). entry_by y.age y.size y.kept y.image y.attr.flags y.attr.lock y.attr.clean y.attr.shared z) i)))))))
 
 abbrev behind_seven : List ℕ → List ℕ
 behind_seven l = tail (tail (tail (tail (tail (tail (tail l))))))
@@ -96,8 +98,8 @@ entries_same (None ∷ xs) (None ∷ ys) e = ap (λ (z : List (Option Entry)). N
 entries_same (None ∷ xs) (Some y ∷ ys) e = absurd (let n : 0 ≡ 1 = ap (at 0) e in omega (arith, n))
 entries_same (Some x ∷ xs) (None ∷ ys) e = absurd (let n : 1 ≡ 0 = ap (at 0) e in omega (arith, n))
 entries_same (Some x ∷ xs) (Some y ∷ ys) e =
-    let i = image_same x.image y.image (entries_told xs) (entries_told ys) (ap (λ (l : List ℕ). tail (behind_seven l)) e) in
-    ap (λ (z : Entry). Some z ∷ xs) (entry_same x y (ap (at 1) e) (ap (at 2) e) (ap (at 3) e) i.0 (ap (at 4) e) (ap (at 5) e) (bit_same x.attr.clean y.attr.clean (ap (at 6) e)) (bit_same x.attr.shared y.attr.shared (ap (at 7) e)))
+    let i = image_same x.image y.image (entries_told xs) (entries_told ys) (ap (λ (l : List ℕ). tail (tail (behind_seven l))) e) in
+    ap (λ (z : Entry). Some z ∷ xs) (entry_same x y (ap (at 1) e) (ap (at 2) e) (ap (at 3) e) i.0 (ap (at 4) e) (ap (at 5) e) (bit_same x.attr.clean y.attr.clean (ap (at 6) e)) (bit_same x.attr.shared y.attr.shared (ap (at 7) e)) (bit_same x.attr.gone y.attr.gone (ap (at 8) e)))
     ∙ ap (λ (z : List (Option Entry)). Some y ∷ z) (entries_same xs ys i.1)
 
 abbrev held_by : ℕ → ℕ → ℕ → Cause → ℕ → ℕ → Held

@@ -34,7 +34,7 @@ image_told (Some p) ns = 1 ∷ p.0 ∷ p.1 ∷ ns
 abbrev pub entries_told : List (Option Entry) → List ℕ
 entries_told [] = []
 entries_told (None ∷ es) = 0 ∷ entries_told es
-entries_told (Some e ∷ es) = 1 ∷ e.age ∷ e.size ∷ e.kept ∷ e.attr.flags ∷ e.attr.lock ∷ bit e.attr.clean ∷ bit e.attr.shared ∷ image_told e.image (entries_told es)
+entries_told (Some e ∷ es) = 1 ∷ e.age ∷ e.size ∷ e.kept ∷ e.attr.flags ∷ e.attr.lock ∷ bit e.attr.clean ∷ bit e.attr.shared ∷ bit e.attr.gone ∷ image_told e.image (entries_told es)
 
 abbrev pub held_told : List (Option Held) → List ℕ
 held_told [] = []

@@ -38,12 +38,20 @@ abbrev pub bytes_under : Shelf → Option ℕ → List ℕ
 bytes_under s None = []
 bytes_under s (Some k) = bytes_from s.memory (place_of s k) (entry s k).size
 
--- of each name: its size, whether it is in memory, and its bytes there
+-- whether a number's segment was discarded
+abbrev pub gone_under : Shelf → Option ℕ → Bool
+gone_under s None = false
+gone_under s (Some k) = (entry s k).attr.gone
+
+-- of each name: its size, whether it is in memory, whether it was discarded, and its bytes in memory
 abbrev pub size_in : Shelf → ℕ → ℕ
 size_in s name = size_under s (key_of s name)
 
 abbrev pub present_in : Shelf → ℕ → Bool
 present_in s name = present_under s (key_of s name)
+
+abbrev pub gone_in : Shelf → ℕ → Bool
+gone_in s name = gone_under s (key_of s name)
 
 abbrev pub bytes_in : Shelf → ℕ → List ℕ
 bytes_in s name = bytes_under s (key_of s name)
@@ -66,7 +74,7 @@ seen_with s m pid registers = record {
   gate = built_gates;
   size = size_in s;
   present = present_in s;
-  discarded = λ name. false;
+  discarded = gone_in s;
   bytes = bytes_in s;
   registers = registers;
   rest = no_rest;

@@ -1,5 +1,5 @@
 -- Loads and accesses, by descriptors alone.
-use Rattle.std.specs.Prelude.{◌≡◌, ℕ, ◌+◌, ◌/◌, true, nat_le, length, ◌≤◌, List, [], Option, Some, None, Result, Ok, Err, if◌then◌else◌}
+use Rattle.std.specs.Prelude.{◌≡◌, ℕ, ◌+◌, ◌/◌, Bool, true, false, not, ◌&&◌, nat_le, length, ◌≤◌, List, [], Option, Some, None, Result, Ok, Err, if◌then◌else◌}
 use Rattle.o2_desc.specs.declared.descriptor.Descriptor.{Descriptor}
 use Rattle.o2_desc.specs.Bits.{is_present, call_gate}
 use Rattle.o2_desc.specs.Bytes.{empty}
@@ -8,7 +8,10 @@ use Rattle.o2_isa.specs.declared.instr.Width.{Width}
 use Rattle.o2_isa.specs.declared.instr.Sreg.{Sreg}
 use Rattle.o2_isa.specs.View.{is_readable, is_writable, is_local, is_null, outside, width_len, value_at, shown_rights}
 use Rattle.o2_bus.specs.declared.loading.LoadTarget.{LoadTarget}
+use Rattle.o2_entries.specs.declared.Entry.{Entry}
+use Rattle.o2_regions.specs.declared.held.Held.{Held}
 use Rattle.o2_regions.specs.Maps.{Maps, held_at, table_of, descriptor_of}
+use Rattle.o2_store.specs.Shelf.{Shelf, entry_of}
 
 -- the descriptor that a selector names in a process's table
 abbrev pub named_descriptor : Maps → ℕ → ℕ → Option Descriptor
@@ -22,9 +25,22 @@ or_empty (Some d) = d
 abbrev pub loaded_descriptor : Maps → ℕ → ℕ → Descriptor
 loaded_descriptor m pid s = if is_null s then empty else or_empty (named_descriptor m pid s)
 
--- what a load asks of the segment of a descriptor
-abbrev pub target_of : Descriptor → LoadTarget
-target_of d = record { access = d.access; present = is_present d.access }
+-- whether a segment that isn't stale was discarded
+abbrev pub is_gone : Option Entry → Bool
+is_gone None = false
+is_gone (Some e) = e.attr.gone
+
+abbrev pub gone_held : Shelf → Option Held → Bool
+gone_held s None = false
+gone_held s (Some h) = is_gone (entry_of s h.id)
+
+-- whether a selector names a segment that was discarded
+abbrev pub gone_named : Shelf → Maps → ℕ → ℕ → Bool
+gone_named s m pid sel = if is_local sel then gone_held s (held_at m pid (sel / 8)) else false
+
+-- what a load asks of the segment of a descriptor, which may be discarded
+abbrev pub target_of : Bool → Descriptor → LoadTarget
+target_of gone d = record { access = d.access; present = is_present d.access; discarded = not (is_present d.access) && gone }
 
 -- the byte or word at a place of the segment in a register
 abbrev pub read_by : List ℕ → Descriptor → Sreg → ℕ → Width → Result ℕ (ℕ × ℕ)

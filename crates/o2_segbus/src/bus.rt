@@ -31,7 +31,8 @@ impl Bus for SegBus<'_, '_> {
     #[inline(always)]
     fn probe(&mut self, purpose: Purpose, sel: Selector) -> Loaded {
         let descriptor = named(self.regions, self.pid, sel.0);
-        let wanted = target(descriptor);
+        self.store.law();
+        let wanted = target(descriptor, self.store, self.regions, self.pid, sel.0);
         load_by(purpose, sel.0, wanted)
     }
 

@@ -8,7 +8,7 @@ ghost use Rattle.o2_store.specs.Shelf.{Shelf, IsShelf, SameTables, Adds, Removes
 ghost use Rattle.o2_isa.specs.View.{IsBound, KeepsFrame};
 ghost use Rattle.o2_segbus.specs.declared.seg_bus.SegBus.{SegBus as SegBusThere};
 ghost use Rattle.o2_segbus.specs.Calls.{LeavesBus, view_of};
-ghost use Rattle.o2_segbus.specs.Seen.{AreNamed, hold_in, present_in, size_in};
+ghost use Rattle.o2_segbus.specs.Seen.{AreNamed, gone_in, hold_in, present_in, size_in};
 ghost use Rattle.o2_segbus.specs.Guards.{AreAged, AreGuarded, AreLive};
 ghost use Rattle.o2_segbus.specs.Frames.{KeepsMaps, KeepsStore};
 
@@ -25,13 +25,14 @@ pub fn ages_are_names()
     ensures removed { (s t : Shelf) (key : ℕ) → Removes s t key → AreAged s → AreAged t }
 {}
 
-/// What a step leaves of store and tables: what each process holds, with which rights, each segment's size and whether it is in
-/// memory, and what keeps names apart and clean segments unwritten.
+/// What a step leaves of store and tables: what each process holds, with which rights, each segment's size, whether it is in
+/// memory and whether it was discarded, and what keeps names apart and clean segments unwritten.
 pub fn frames_keep()
     ensures holds { (m n : Maps) → KeepsMaps m n → (pid i : ℕ) → hold_in n pid i ≡ hold_in m pid i }
     ensures sizes { (s t : Shelf) → KeepsStore s t → (name : ℕ) → size_in t name ≡ size_in s name }
     ensures present { (s t : Shelf) → KeepsStore s t
         → (name : ℕ) → present_in t name ≡ present_in s name }
+    ensures gone { (s t : Shelf) → KeepsStore s t → (name : ℕ) → gone_in t name ≡ gone_in s name }
     ensures ages { (s t : Shelf) → KeepsStore s t → AreAged s → AreAged t }
     ensures guards { (s t : Shelf) (m n : Maps) → KeepsStore s t → KeepsMaps m n
         → AreGuarded s m → AreGuarded t n }

@@ -16,7 +16,7 @@ use Rattle.o2_swapmap.specs.Piles.{all_of}
 use Rattle.o2_store.specs.Loads.{live_load, swap_load}
 use Rattle.o2_store.proofs.Loads.{same_live_load, same_swap_load}
 use Rattle.o2_store.specs.Needs.{named_in, is_named, has_age, wanted, all_wanted}
-use Rattle.o2_service.specs.Needs.{AreLive, ArePresent, OnlyNeededComes, Stays, needs, size_in, needed, all_needed, segments_of}
+use Rattle.o2_service.specs.Needs.{AreLive, ArePresent, AreWhole, OnlyNeededComes, Stays, needs, size_in, needed, all_needed, segments_of}
 
 -- a live segment is the one that its number has
 pub named_live : (age : ℕ) (o : Option Entry) → IsSome (aged age o) → has_age o age ≡ true
@@ -117,6 +117,12 @@ live_same s t id q i = live_aged id.age (slot_at s.entries id.key) (slot_at t.en
 
 pub all_live_same : (s t : Shelf) (need : List (SegId × ℕ)) → SameTables s t → AreLive s need → AreLive t need
 all_live_same s t need q l = record { each = λ i p e. live_same s t p.0 q (l.each i p e) }
+
+pub whole_same : (s t : Shelf) (k : ℕ) → SameTables s t → (entry s k).attr.gone ≡ false → (entry t k).attr.gone ≡ false
+whole_same s t k q w = ap (λ (a : Attr). a.gone) (q.same k).attr ∙ w
+
+pub all_whole_same : (s t : Shelf) (need : List (SegId × ℕ)) → SameTables s t → AreWhole s need → AreWhole t need
+all_whole_same s t need q w = record { each = λ i p e. whole_same s t p.0.key q (w.each i p e) }
 
 -- what stays in two steps
 pub stays_refl : (need : List (SegId × ℕ)) (s : Shelf) → Stays need s s

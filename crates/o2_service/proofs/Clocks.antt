@@ -23,7 +23,7 @@ use Rattle.o2_store.specs.Shelf as shelf
 use Rattle.o2_service.specs.Learned.{AreUnused, AreUnusedBelow, AreUnusedTo, ClearsBits, IsLoose, Learns, Touches, TouchesOne, used_mark}
 use Rattle.o2_store.specs.Shelf.{AreClean, KeepsAll, Pictures}
 use Rattle.o2_store.proofs.Keeping.{clean_unmarked, keeps_trans, keeps_unmarked}
-use Rattle.o2_service.specs.Needs.{AreLive, OnlyNeededComes, Stays, all_needed}
+use Rattle.o2_service.specs.Needs.{AreLive, AreWhole, OnlyNeededComes, Stays, all_needed}
 use Rattle.o2_service.specs.Told.{IsHeldWell, OnlyTables}
 use Rattle.o2_service.proofs.Amounts.{live_within}
 use Rattle.o2_service.proofs.Placing.{told_held, told_here, told_other}
@@ -394,6 +394,9 @@ told_unused s m n id base limit w t u = record { each = at }
 
 pub live_marked : (s t : Shelf) (need : List (SegId × ℕ)) → t ≡ record s { turns = t.turns } → AreLive s need → AreLive t need
 live_marked s t need e l = subst (λ (z : Shelf). AreLive z need) (sym e) (record { each = l.each })
+
+pub whole_marked : (s t : Shelf) (need : List (SegId × ℕ)) → t ≡ record s { turns = t.turns } → AreWhole s need → AreWhole t need
+whole_marked s t need e w = subst (λ (z : Shelf). AreWhole z need) (sym e) (record { each = w.each })
 
 pub needed_marked : (s t : Shelf) (need : List (SegId × ℕ)) → t ≡ record s { turns = t.turns } → all_needed s need ≤ s.places.size → all_needed t need ≤ t.places.size
 needed_marked s t need e l = subst (λ (z : Shelf). all_needed z need ≤ z.places.size) (sym e) l

@@ -30,6 +30,10 @@ all_needed s need = over (needed s need) (length s.entries)
 pub record AreLive (s : Shelf) (need : List (SegId × ℕ)) : Type 0 where
   pub each : (i : ℕ) (p : SegId × ℕ) → slice_get need i ≡ Some p → IsSome (entry_of s p.0)
 
+-- none was discarded
+pub record AreWhole (s : Shelf) (need : List (SegId × ℕ)) : Type 0 where
+  pub each : (i : ℕ) (p : SegId × ℕ) → slice_get need i ≡ Some p → (entry s p.0.key).attr.gone ≡ false
+
 -- the first n are in memory
 pub record ArePresent (s : Shelf) (need : List (SegId × ℕ)) (n : ℕ) : Type 0 where
   pub each : (i : ℕ) (p : SegId × ℕ) → i < n → slice_get need i ≡ Some p → IsSome (place_of s p.0.key)

@@ -1,5 +1,5 @@
 // One segment comes in, and the descriptors of each one that moves for it say where it is.
-ghost use Rattle.std.specs.Prelude.{◌≡◌, ◌≢◌, ℕ, List, Bool, ◌+◌, ◌<◌, ◌≤◌, length, is_some, IsSome, None, true};
+ghost use Rattle.std.specs.Prelude.{◌≡◌, ◌≢◌, ℕ, List, Bool, ◌+◌, ◌<◌, ◌≤◌, length, is_some, IsSome, None, true, false};
 ghost use Rattle.o2_entries.specs.Tables.{slot_at};
 ghost use Rattle.o2_place.specs.Layout.{IsFree, used};
 ghost use Rattle.o2_segbus.specs.Settled.{IsSettled};
@@ -161,6 +161,7 @@ fn fill_gap<S: SwapDevice>(
     swap: &mut S,
 ) -> Brought
     requires live { IsSome (entry_of store.old id) }
+    requires whole { (entry store.old id.key).attr.gone ≡ false }
     requires out { place_of store.old id.key ≡ None }
     requires room { used store.old.places.ranges + rounded (entry store.old id.key).size ≤ store.old.places.size }
     requires gap { (at : ℕ) × IsFree store.old.places.size store.old.places.ranges at (rounded (entry store.old id.key).size) }
@@ -182,6 +183,7 @@ fn fill_gap<S: SwapDevice>(
     ensures asks { AsksFor (S.known swap.new) (blocks_of store.old.swap id.key) (S.asked swap.old) (S.asked swap.new) (result ≡ Brought.Here) }
 
     ensures here { result ≡ Brought.Here → IsSome (place_of store.new id.key) }
+    ensures out { (result ≡ Brought.Here → ⊥) → place_of store.new id.key ≡ None }
     ensures never { (result ≡ Brought.NoRoom → ⊥) × (result ≡ Brought.Stale → ⊥) × (result ≡ Brought.SwapFull → ⊥) }
     ensures idle { NoneTaken store.old.swap → IsIdle store.new swap.old swap.new }
 {
@@ -201,6 +203,7 @@ fn bring_in<S: SwapDevice>(
     swap: &mut S,
 ) -> Brought
     requires live { IsSome (entry_of store.old id) }
+    requires whole { (entry store.old id.key).attr.gone ≡ false }
     requires out { place_of store.old id.key ≡ None }
     requires fits { all_wanted store.old id.key keep.now ≤ store.old.places.size }
     requires held { IsHeldWell store.old regions.old }
@@ -223,6 +226,7 @@ fn bring_in<S: SwapDevice>(
     ensures asks { AsksFor (S.known swap.new) (blocks_of store.old.swap id.key) (S.asked swap.old) (S.asked swap.new) (result ≡ Brought.Here) }
 
     ensures here { result ≡ Brought.Here → IsSome (place_of store.new id.key) }
+    ensures out { (result ≡ Brought.Here → ⊥) → place_of store.new id.key ≡ None }
     ensures loads { result ≡ Brought.SwapFull
         → (all_of store.old.swap < swap_load store.old)
         × (store.old.places.size < live_load store.old) }
@@ -240,7 +244,7 @@ fn bring_in<S: SwapDevice>(
     }
 }
 
-/// Brings a live segment into memory together with those of `keep` and the locked ones, and says in the descriptors of each
+/// Brings a live segment that isn't discarded into memory together with those of `keep` and the locked ones, and says in the descriptors of each
 /// segment that leaves or slides for it, and in its own, where it is then. Whatever the answer, each segment keeps its bytes, its
 /// size and its attributes, those of `keep` and locked ones that are in memory stay there, and all descriptors agree with the
 /// store. No more segments leave than must, and none slides where a gap is long enough. The work is that of the segments that
@@ -254,6 +258,7 @@ pub fn bring<S: SwapDevice>(
     swap: &mut S,
 ) -> Brought
     requires live { IsSome (entry_of store.old id) }
+    requires whole { (entry store.old id.key).attr.gone ≡ false }
     requires held { IsHeldWell store.old regions.old }
     requires settled { IsSettled store.old regions.old }
     requires pictures { HasAll (HasPicture images.now) store.old }
@@ -277,6 +282,8 @@ pub fn bring<S: SwapDevice>(
         → AsksFor (S.known swap.new) (blocks_of store.old.swap id.key) (S.asked swap.old) (S.asked swap.new) (result ≡ Brought.Here) }
 
     ensures here { result ≡ Brought.Here → IsSome (place_of store.new id.key) }
+    ensures out { (result ≡ Brought.Here → ⊥) → place_of store.old id.key ≡ None
+        → place_of store.new id.key ≡ None }
     ensures no_room { result ≡ Brought.NoRoom
         → store.old.places.size < all_wanted store.old id.key keep.now }
     ensures absent { result ≡ Brought.NoRoom → place_of store.old id.key ≡ None }

@@ -13,4 +13,4 @@ pub use learning::learn;
 pub use need::Need;
 pub use o2_segbus::SegBus;
 pub use serving::{Served, serve};
-pub use settling::{settle, settle_one};
+pub use settling::{settle, settle_moved, settle_one};

@@ -7,7 +7,7 @@ ghost use Rattle.o2_store.specs.Leaving.{LeaveFor};
 ghost use Rattle.o2_store.specs.Loads.{live_load, swap_load};
 ghost use Rattle.o2_store.specs.Pictures.{picture, HasPicture};
 ghost use Rattle.o2_store.specs.Shelf.{AreClean, HasAll, KeepsAll, entry, entry_of, place_of};
-ghost use Rattle.o2_service.specs.Needs.{AreLive, ArePresent, AreServed, OnlyNeededComes, Stays, all_needed, needs};
+ghost use Rattle.o2_service.specs.Needs.{AreLive, ArePresent, AreServed, AreWhole, OnlyNeededComes, Stays, all_needed, needs};
 ghost use Rattle.o2_service.specs.Learned.{AreUnused};
 ghost use Rattle.o2_service.specs.Told.{Follows, IsHeldWell, OnlyTables};
 ghost use Rattle.o2_store.specs.Idle.{Idles};
@@ -38,6 +38,7 @@ pub enum Served {
 /// Brings what is needed into memory together, and says in all descriptors where segments are now. What is needed or locked
 /// and was in memory stays there, and nothing else comes in; so each that is needed comes in once at most. No more leaves than
 /// must. Whatever the answer, each segment keeps its bytes, its size and its attributes, and all descriptors agree with the store.
+/// Nothing that was discarded is needed.
 ///
 /// Where nothing is missing, nothing changes, and the work is that of looking each needed segment up. Otherwise the clock first
 /// learns which segments were used, by the accessed bits, which are clear then; and the work is that of those bits, and of each
@@ -50,6 +51,7 @@ pub fn serve<S: SwapDevice>(
     swap: &mut S,
 ) -> Served
     requires live { AreLive store.old need.now }
+    requires whole { AreWhole store.old need.now }
     requires held { IsHeldWell store.old regions.old }
     requires settled { IsSettled store.old regions.old }
     requires pictures { HasAll (HasPicture images.now) store.old }
@@ -118,6 +120,7 @@ fn bring_all<S: SwapDevice>(
     swap: &mut S,
 ) -> Served
     requires live { AreLive store.old need.now }
+    requires whole { AreWhole store.old need.now }
     requires fits { all_needed store.old need.now ≤ store.old.places.size }
     requires held { IsHeldWell store.old regions.old }
     requires settled { IsSettled store.old regions.old }
@@ -177,6 +180,7 @@ fn bring_one<S: SwapDevice>(
     swap: &mut S,
 ) -> Served
     requires live { IsSome (entry_of store.old id) }
+    requires whole { (entry store.old id.key).attr.gone ≡ false }
     requires all { AreLive store.old need.now }
     requires among { needs need.now id.key ≡ true }
     requires fits { all_needed store.old need.now ≤ store.old.places.size }

@@ -50,7 +50,7 @@ pub fn settle(store: &Store, regions: &mut Regions)
 
 /// Says in the descriptors of those who hold a live segment where it is, where those of all other segments say so already. The
 /// work is that of going over its holders.
-pub(crate) fn settle_moved(store: &Store, regions: &mut Regions, id: SegId)
+pub fn settle_moved(store: &Store, regions: &mut Regions, id: SegId)
     requires live { IsSome (entry_of store.now id) }
     requires held { IsHeldWell store.now regions.old }
     requires others { AreToldBut id.key store.now regions.old }

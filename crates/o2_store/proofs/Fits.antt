@@ -1,5 +1,5 @@
 -- A range that gets another length.
-use Rattle.std.proofs.Common.{◌≡◌, ◌≢◌, ◌⊎◌, inl, inr, ℕ, ◌+◌, ◌-◌, ◌<◌, ◌≤◌, List, [], length, take, get_or, Option, Some, None, IsSome, option_map, refl, sym, ap, ◌∙◌, subst, arith, unwrap_or, true, false}
+use Rattle.std.proofs.Common.{◌≡◌, ◌≢◌, ◌⊎◌, inl, inr, ℕ, ◌+◌, ◌<◌, ◌≤◌, List, [], length, take, get_or, Option, Some, None, IsSome, option_map, refl, sym, ap, ◌∙◌, subst, arith, unwrap_or, true, false}
 use Rattle.std.proofs.lemmas.Bool.{cases_eq}
 use Rattle.std.proofs.lemmas.List.{get_or-take}
 use Rattle.o2_phys.specs.Bytes.{part}

@@ -10,13 +10,19 @@ use Rattle.o2_place.specs.Marks.{mark_of}
 use Rattle.o2_swapmap.specs.Piles.{Blocks, blocks_of, OnlyOf}
 use Rattle.o2_store.specs.Shelf.{Shelf, IsShelf, IsSegment, IsSegmentAt, entry, entry_or, place_of, rounded, blocks_for, Pictures, byte_at, byte_in, out_byte, source_byte, AreClean, KeepsAll, SameEntry}
 use Rattle.o2_store.specs.Sizes.{Refits, Resizes, Goes}
-use Rattle.o2_store.proofs.Tables.{within_at, slot-past, slot-set_same, slot-set_other, none_is_none, placed_at, kept_at}
+use Rattle.o2_store.proofs.Tables.{within_at, slot-past, slot-set_same, slot-set_other, none_is_none, placed_at, kept_at, gone_still}
 use Rattle.o2_store.proofs.Keeping.{same_entry, out_kept, clean_source}
 use Rattle.o2_store.proofs.Fits.{pair_at}
 
 -- an entry at another size
 abbrev pub at_size : Entry → ℕ → Entry
 at_size e size = record e { size = size; kept = min e.kept size }
+
+-- no more of its bytes are kept
+pub kept_less : (es : List (Option Entry)) (key : ℕ) (e : Entry) (size : ℕ) → slot_at es key ≡ Some e → (entry_or (slot_at (set es key (Some (at_size e size))) key)).kept ≤ (entry_or (slot_at es key)).kept
+kept_less es key e size slot =
+    let l = within_at es key (ap is_some slot) in
+    rw (slot-set_same es key (Some (at_size e size)) l, slot) (omega arith)
 
 -- the store with it
 abbrev pub grown : Shelf → List ℕ → Layout → Blocks → ℕ → Entry → Shelf
@@ -49,6 +55,7 @@ segment_moved made o p r b m n h eq same from = record {
   stored = λ e. eq ∙ h.stored e;
   pure = λ i. eq ∙ h.pure i;
   clean = h.clean;
+  gone = λ q. (let g = h.gone q in gone_still (entry_or o) (entry_or o) p r (none_by r (same ∙ ap is_some g.out)) refl refl refl g);
 }
 
 pub fit_presence : (m : List ℕ) (p : Layout) (n : List ℕ) (q : Layout) (key old new k : ℕ) → Refits m p n q key old new → is_some (find_in q.ranges k) ≡ is_some (find_in p.ranges k)
@@ -105,6 +112,8 @@ at_key s n q w key size e g =
       stored = λ x. (let z = old.stored x in length-take-le (blocks_for (min e.kept size)) (blocks_of s.swap key) (omega (arith, z)));
       pure = λ i. take_none (blocks_for (min e.kept size)) (blocks_of s.swap key) (old.pure i);
       clean = old.clean;
+      gone = λ x. (let y = old.gone x in
+          gone_still e f (place_of s key) (find_in q.ranges key) (none_by (find_in q.ranges key) (same ∙ ap is_some y.out)) refl (let none = y.kept in omega (arith, none)) refl y);
     })
   where
     take_none : (n : ℕ) (xs : List ℕ) → length xs ≡ 0 → length (take n xs) ≡ 0

@@ -11,8 +11,8 @@ use Rattle.o2_place.specs.declared.clock.Mark.{Mark}
 use Rattle.o2_place.specs.Layout.{Layout, Changes}
 use Rattle.o2_place.specs.Marks.{Turns, mark_of, no_mark, OnlyUnmarks}
 use Rattle.o2_swapmap.specs.Piles.{Blocks, blocks_of, OnlyOf, NoneTwice}
-use Rattle.o2_store.specs.Shelf.{Shelf, IsShelf, IsSegment, entry, entry_or, place_of, blocks_for, Pictures, byte_at, byte_in, out_byte, source_byte, KeepsAll, SameEntry, SameTables, AreClean, IsOther, IsSaved}
-use Rattle.o2_store.proofs.Tables.{Touches, IsShelf-touch, slot-past, slot-set_same, slot-set_other, place-same, place-other, marks_other, marks_same, marks_long, within_at, none_is_none, locked_at}
+use Rattle.o2_store.specs.Shelf.{Shelf, IsShelf, IsSegment, IsDiscardable, discarded_entry, entry, entry_or, place_of, blocks_for, Pictures, byte_at, byte_in, out_byte, source_byte, KeepsAll, SameEntry, SameTables, AreClean, IsOther, IsSaved}
+use Rattle.o2_store.proofs.Tables.{Touches, IsShelf-touch, slot-past, slot-set_same, slot-set_other, place-same, place-other, marks_other, marks_same, marks_long, within_at, none_is_none, locked_at, gone_still, never_gone, touched}
 
 pub same_entry : (o : Option Entry) → SameEntry o o
 same_entry o = record { live = refl; age = refl; size = refl; attr = refl; image = λ p e. e }
@@ -139,8 +139,8 @@ reserved_touches s m key e h only = record {
 }
 
 pub IsShelf-reserve : (s : Shelf) (m : Blocks) (key kept : ℕ) (e : Entry) → IsShelf s → slot_at s.entries key ≡ Some e → OnlyOf key s.swap m → length (blocks_of m key) ≡ blocks_for kept → kept ≤ e.size → e.attr.clean ≡ false
-    → IsShelf (record s { swap = m; entries = set s.entries key (Some (record e { kept = kept; image = None })) })
-IsShelf-reserve s m key kept e h slot only enough small written =
+    → IsSome (place_of s key) → IsShelf (record s { swap = m; entries = set s.entries key (Some (record e { kept = kept; image = None })) })
+IsShelf-reserve s m key kept e h slot only enough small written there =
     let f : Entry = record e { kept = kept; image = None } in
     let t : Shelf = record s { swap = m; entries = set s.entries key (Some f) } in
     let l : key < length s.entries = within_at s.entries key (ap is_some slot) in
@@ -157,6 +157,7 @@ IsShelf-reserve s m key kept e h slot only enough small written =
       stored = λ q. enough;
       pure = λ i. absurd (let g : false ≡ true = i in cc);
       clean = λ q. absurd (let g : false ≡ true = sym written ∙ q in cc);
+      gone = λ q. absurd (never_gone e (place_of s key) there (old.gone q));
     }))
 
 -- a segment leaves the memory
@@ -194,6 +195,7 @@ IsShelf-gone s p u key h l lock c marks =
       stored = old.stored;
       pure = old.pure;
       clean = old.clean;
+      gone = λ q. gone_still (entry s key) (entry s key) (place_of s key) None refl refl refl refl (old.gone q);
     }))
 
 -- a segment in memory has the same bytes whatever its entry says
@@ -343,3 +345,13 @@ pub locked_stay : (s t : Shelf) → IsShelf t → SameTables s t → (k : ℕ) �
 locked_stay s t h q k l =
     let e : (entry t k).attr.lock ≡ (entry s k).attr.lock = ap (λ (x : Attr). x.lock) (q.same k).attr in
     locked_at t k h (omega (arith, e, l))
+
+-- clean segments stay as they are where another one is discarded
+pub clean_discarded : (pic : Pictures) (s : Shelf) (p : Layout) (u : Turns) (m : Blocks) (key : ℕ) (e : Entry) → IsShelf s → slot_at s.entries key ≡ Some e → IsDiscardable e.attr → Changes s.places p key None
+    → u.marks ≡ set s.turns.marks key no_mark → OnlyOf key s.swap m → AreClean s pic → AreClean (record s { places = p; turns = u; swap = m; entries = set s.entries key (Some (discarded_entry e)) }) pic
+clean_discarded pic s p u m key e h slot kind c marks only a =
+    let f = discarded_entry e in
+    let t : Shelf = record s { places = p; turns = u; swap = m; entries = set s.entries key (Some f) } in
+    let l = within_at s.entries key (ap is_some slot) in
+    clean_keeps s t pic key h a (touched s p u m key (Some f) None h c (marks_long s.turns.marks u.marks key no_mark marks) (λ k n. marks_other s.turns.marks u.marks key k no_mark marks n) only) refl
+    (λ at len clean place. none_is_none place (place-same s.places p key None c))

@@ -13,7 +13,7 @@ use Rattle.o2_place.specs.Marks.{Turns, mark_of}
 use Rattle.o2_compact.specs.Parts.{KeepsParts}
 use Rattle.o2_swapmap.specs.Piles.{Blocks, blocks_of}
 use Rattle.o2_store.specs.Shelf.{Shelf, IsShelf, entry, place_of, rounded, Pictures, byte_in, out_byte, source_byte, KeepsAll, AreClean, IsMoved, base_of}
-use Rattle.o2_store.proofs.Tables.{Touches, IsShelf-touch, place-same, place-other, marks_other, marks_same, marks_long, placed_at, none_is_none}
+use Rattle.o2_store.proofs.Tables.{Touches, IsShelf-touch, place-same, place-other, marks_other, marks_same, marks_long, placed_at, none_is_none, gone_still}
 use Rattle.o2_store.proofs.Keeping.{same_entry, keeps_trans, same_at}
 
 -- a range that has moved
@@ -82,6 +82,7 @@ IsShelf-moved s m p h q whole most =
         stored = old.stored;
         pure = old.pure;
         clean = old.clean;
+        gone = λ e. (let g = old.gone e in gone_still (entry s k) (entry s k) (place_of s k) (place_of t k) (q.none k g.out) refl refl refl g);
       });
     }
 
@@ -168,8 +169,8 @@ unlocked_out s key h l none = elim (cases_lt 0 (entry s key).attr.lock) [
 ]
 
 pub IsShelf-settle : (s : Shelf) (p : Layout) (u : Turns) (key at : ℕ) (x : Mark) → IsShelf s → key < length s.entries → IsSome (slot_at s.entries key) → place_of s key ≡ None → Changes s.places p key (Some (at, rounded (entry s key).size))
-    → u.marks ≡ set s.turns.marks key x → x.present ≡ true → IsShelf (record s { places = p; turns = u })
-IsShelf-settle s p u key at x h l live none c marks there =
+    → u.marks ≡ set s.turns.marks key x → x.present ≡ true → (entry s key).attr.gone ≡ false → IsShelf (record s { places = p; turns = u })
+IsShelf-settle s p u key at x h l live none c marks there whole =
     let t : Shelf = record s { places = p; turns = u } in
     let old = h.each key l in
     let here : place_of t key ≡ Some (at, rounded (entry s key).size) = place-same s.places p key (Some (at, rounded (entry s key).size)) c in
@@ -188,6 +189,7 @@ IsShelf-settle s p u key at x h l live none c marks there =
       stored = old.stored;
       pure = old.pure;
       clean = old.clean;
+      gone = λ q. absurd (let f : false ≡ true = sym whole ∙ q in cc);
     }))
 
 clean_any : (o : Option (ℕ × ℕ)) (pic : Pictures) (m : Blocks) (a b : ℕ → List ℕ) (k j : ℕ) → IsSome o → source_byte o pic m b k j ≡ source_byte o pic m a k j

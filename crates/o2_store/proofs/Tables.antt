@@ -12,7 +12,7 @@ use Rattle.o2_place.specs.Layout.{Layout, find_in, Changes, over}
 use Rattle.o2_place.specs.Marks.{Turns, mark_of, no_mark}
 use Rattle.o2_place.proofs.Sums.{over-same, over-zero}
 use Rattle.o2_swapmap.specs.Piles.{Blocks, blocks_of, OnlyOf}
-use Rattle.o2_store.specs.Shelf.{Shelf, IsShelf, IsSegment, IsSegmentAt, entry, entry_or, place_of, rounded, locked_need, all_locked, aged, FollowsLock, Pictures, byte_at, byte_in, source_byte, Removes}
+use Rattle.o2_store.specs.Shelf.{Shelf, IsShelf, IsSegment, IsGone, IsDiscardable, Discards, discarded_entry, IsSegmentAt, entry, entry_or, place_of, rounded, locked_need, all_locked, aged, FollowsLock, Pictures, byte_at, byte_in, source_byte, Removes}
 
 pub none_is_none : {o : Option (ℕ × ℕ)} {at len : ℕ} → o ≡ Some (at, len) → o ≡ None → ⊥
 none_is_none a b = cc (a, b)
@@ -53,6 +53,7 @@ with_made m n o p b blocks young h = record {
   stored = h.stored;
   pure = h.pure;
   clean = h.clean;
+  gone = h.gone;
 }
 
 -- later ones were made
@@ -155,6 +156,7 @@ empty_segment made = record {
   stored = λ e. refl;
   pure = λ i. refl;
   clean = λ e. absurd (let f : false ≡ true = e in cc);
+  gone = λ e. absurd (let f : false ≡ true = e in cc);
 }
 
 -- a store without segments
@@ -227,8 +229,9 @@ relocked es key o sum part part2 l e p q =
 
 -- a new segment
 pub IsShelf-add : (s : Shelf) (key : ℕ) (e : Entry) → IsShelf s → key < length s.entries → slot_at s.entries key ≡ None → e.age ≡ s.made → 0 < e.size → e.size ≤ 65536 → e.kept ≤ e.size
-    → (e.image ≡ None → e.kept ≡ 0) → e.attr.lock ≡ 0 → (e.attr.clean ≡ true → IsSome e.image) → IsShelf (record s { entries = set s.entries key (Some e); made = s.made + 1 })
-IsShelf-add s key e h l vacant age some small kept sourced lock clean =
+    → (e.image ≡ None → e.kept ≡ 0) → e.attr.lock ≡ 0 → (e.attr.clean ≡ true → IsSome e.image) → e.attr.gone ≡ false
+    → IsShelf (record s { entries = set s.entries key (Some e); made = s.made + 1 })
+IsShelf-add s key e h l vacant age some small kept sourced lock clean whole =
     let t : Shelf = record s { entries = set s.entries key (Some e); made = s.made + 1 } in
     let old : IsSegment s.made None (place_of s key) (mark_of s.turns.marks key).present (length (blocks_of s.swap key)) = subst (λ (o : Option Entry). IsSegment s.made o (place_of s key) (mark_of s.turns.marks key).present (length (blocks_of s.swap key))) vacant (h.each key l) in
     let out : place_of s key ≡ None = old.dead refl in
@@ -259,6 +262,7 @@ IsShelf-add s key e h l vacant age some small kept sourced lock clean =
       stored = λ q. (let z = sourced q in omega (arith, z));
       pure = λ i. refl;
       clean = clean;
+      gone = λ q. absurd (let f : false ≡ true = sym whole ∙ q in cc);
     }))
 
 -- the frame of a change at one number, by the parts that change
@@ -303,8 +307,8 @@ IsShelf-remove s p u m key h l c marks only gone =
 -- attributes are set
 pub IsShelf-attr : (s : Shelf) (u : Turns) (key : ℕ) (e : Entry) (a : Attr) → IsShelf s → key < length s.entries → slot_at s.entries key ≡ Some e → length u.marks ≡ length s.turns.marks
     → ((k : ℕ) → k ≢ key → (mark_of u.marks k).present ≡ (mark_of s.turns.marks k).present) → FollowsLock (mark_of s.turns.marks key).present (mark_of u.marks key).present e.attr.lock a.lock
-    → (0 < a.lock → IsSome (place_of s key)) → a.clean ≡ e.attr.clean → IsShelf (record s { turns = u; entries = set s.entries key (Some (record e { attr = a })) })
-IsShelf-attr s u key e a h l slot long marks follows lock clean =
+    → (0 < a.lock → IsSome (place_of s key)) → a.clean ≡ e.attr.clean → a.gone ≡ false → IsShelf (record s { turns = u; entries = set s.entries key (Some (record e { attr = a })) })
+IsShelf-attr s u key e a h l slot long marks follows lock clean whole =
     let f : Entry = record e { attr = a } in
     let t : Shelf = record s { turns = u; entries = set s.entries key (Some f) } in
     let old : IsSegment s.made (Some e) (place_of s key) (mark_of s.turns.marks key).present (length (blocks_of s.swap key)) = subst (λ (o : Option Entry). IsSegment s.made o (place_of s key) (mark_of s.turns.marks key).present (length (blocks_of s.swap key))) slot (h.each key l) in
@@ -333,6 +337,7 @@ IsShelf-attr s u key e a h l slot long marks follows lock clean =
       stored = old.stored;
       pure = old.pure;
       clean = λ q. old.clean (sym clean ∙ q);
+      gone = λ q. absurd (let f : false ≡ true = sym whole ∙ q in cc);
     }))
 
 -- attributes are no bytes
@@ -364,12 +369,12 @@ byte_past s t pic a b k j memory none none' place =
     let z : ltb j 0 ≡ false = grind (arith, nat_tests) in
     rw (memory, place, none, none', z) refl
 
--- bytes of the others, where a segment goes
-pub removed_byte : (s : Shelf) (p : Layout) (u : Turns) (m : Blocks) (key : ℕ) → IsShelf s → Changes s.places p key None → OnlyOf key s.swap m → (pic : Pictures) (block : ℕ → List ℕ) (k j : ℕ) → k ≢ key
-    → byte_at (record s { places = p; turns = u; swap = m; entries = set s.entries key None }) pic block k j ≡ byte_at s pic block k j
-removed_byte s p u m key h c only pic block k j n =
-    let t : Shelf = record s { places = p; turns = u; swap = m; entries = set s.entries key None } in
-    let slot = slot-set_other s.entries key k None n in
+-- bytes of the others, where a segment goes or loses what it has
+pub removed_byte : (s : Shelf) (p : Layout) (u : Turns) (m : Blocks) (key : ℕ) (o : Option Entry) → IsShelf s → Changes s.places p key None → OnlyOf key s.swap m → (pic : Pictures) (block : ℕ → List ℕ) (k j : ℕ) → k ≢ key
+    → byte_at (record s { places = p; turns = u; swap = m; entries = set s.entries key o }) pic block k j ≡ byte_at s pic block k j
+removed_byte s p u m key o h c only pic block k j n =
+    let t : Shelf = record s { places = p; turns = u; swap = m; entries = set s.entries key o } in
+    let slot = slot-set_other s.entries key k o n in
     elim (cases_lt k (length s.entries)) [
       | inl l ↦ byte_same s t pic block block k j refl slot (place-other s.places p key k None c n) (only.others k n (omega (arith, h.swap_most))) (λ i. refl)
       | inr past ↦ byte_past s t pic block block k j refl (slot-past s.entries k past) (slot ∙ slot-past s.entries k past) (place-other s.places p key k None c n)
@@ -383,5 +388,77 @@ removes_is s p u m key h c only gone = record {
   blocks = gone;
   entries = λ k n. slot-set_other s.entries key k None n;
   places = λ k n. place-other s.places p key k None c n;
-  bytes = λ pic block k j n. removed_byte s p u m key h c only pic block k j n;
+  bytes = λ pic block k j n. removed_byte s p u m key None h c only pic block k j n;
 }
+
+-- Discarding.
+
+-- a segment that goes on having no place, no image and no kept bytes stays discarded
+pub gone_still : (e f : Entry) (p r : Option (ℕ × ℕ)) → r ≡ None → f.image ≡ e.image → f.kept ≡ e.kept → f.attr ≡ e.attr → IsGone e p → IsGone f r
+gone_still e f p r out image kept attr g = record {
+  out = out;
+  image = image ∙ g.image;
+  kept = kept ∙ g.kept;
+  kind = subst IsDiscardable (sym attr) g.kind;
+}
+
+-- a segment in memory isn't discarded
+pub never_gone : (e : Entry) (p : Option (ℕ × ℕ)) → IsSome p → IsGone e p → ⊥
+never_gone e p there g = (let f : is_some p ≡ false = ap is_some g.out in let h : true ≡ false = sym there ∙ f in cc)
+
+-- what a discarded segment takes for sure is nothing, before and after
+pub same_locked : (es : List (Option Entry)) (key : ℕ) (e : Entry) → slot_at es key ≡ Some e → e.attr.lock ≡ 0 → all_locked (set es key (Some (discarded_entry e))) ≡ all_locked es
+same_locked es key e slot lock =
+    let l = within_at es key (ap is_some slot) in
+    let a = locked-set es key (Some (discarded_entry e)) l in
+    let before : locked_need es key ≡ 0 = ap (λ (o : Option Entry). if ltb 0 (entry_or o).attr.lock then rounded (entry_or o).size else 0) slot ∙ none e.size e.attr.lock lock in
+    let after : locked_need (set es key (Some (discarded_entry e))) key ≡ 0 =
+    ap (λ (o : Option Entry). if ltb 0 (entry_or o).attr.lock then rounded (entry_or o).size else 0) (slot-set_same es key (Some (discarded_entry e)) l) ∙ none e.size e.attr.lock lock in
+    omega (arith, a, before, after)
+  where
+    none : (size lock : ℕ) → lock ≡ 0 → (if ltb 0 lock then rounded size else 0) ≡ 0
+    none size lock z = ap (λ (x : ℕ). if ltb 0 x then rounded size else 0) z
+
+pub IsShelf-discard : (s : Shelf) (p : Layout) (u : Turns) (m : Blocks) (key : ℕ) (e : Entry) → IsShelf s → slot_at s.entries key ≡ Some e → IsDiscardable e.attr → Changes s.places p key None
+    → u.marks ≡ set s.turns.marks key no_mark → OnlyOf key s.swap m → blocks_of m key ≡ take 0 (blocks_of s.swap key)
+    → IsShelf (record s { places = p; turns = u; swap = m; entries = set s.entries key (Some (discarded_entry e)) })
+IsShelf-discard s p u m key e h slot kind c marks only none_left =
+    let f = discarded_entry e in
+    let t : Shelf = record s { places = p; turns = u; swap = m; entries = set s.entries key (Some f) } in
+    let l = within_at s.entries key (ap is_some slot) in
+    let old : IsSegment s.made (Some e) (place_of s key) (mark_of s.turns.marks key).present (length (blocks_of s.swap key)) = subst (λ (o : Option Entry). IsSegment s.made o (place_of s key) (mark_of s.turns.marks key).present (length (blocks_of s.swap key))) slot (h.each key l) in
+    let out : place_of t key ≡ None = place-same s.places p key None c in
+    let mark : (mark_of u.marks key).present ≡ false = marks_same s.turns.marks u.marks key no_mark marks (omega (arith, h.turns_most)) in
+    let none : length (blocks_of m key) ≡ 0 = ap (λ (xs : List ℕ). length xs) none_left in
+    let here : slot_at t.entries key ≡ Some f = slot-set_same s.entries key (Some f) l in
+    IsShelf-touch s t key h (touched s p u m key (Some f) None h c (marks_long s.turns.marks u.marks key no_mark marks) (λ k n. marks_other s.turns.marks u.marks key k no_mark marks n) only) l
+    (rw (here, out, mark, none) (record {
+      placed = λ at len q. absurd cc;
+      clock = refl;
+      locked = λ w. (let z = kind.unlocked in absurd (omega (arith, w, z)));
+      dead = λ q. refl;
+      live = old.live;
+      young = old.young;
+      sized = old.sized;
+      kept = omega arith;
+      stored = λ q. refl;
+      pure = λ i. refl;
+      clean = λ q. absurd (let f : false ≡ true = sym kind.written ∙ q in cc);
+      gone = λ q. record { out = refl; image = refl; kept = refl; kind = record { flag = kind.flag; written = kind.written; unlocked = kind.unlocked } };
+    }))
+
+pub discards_is : (s : Shelf) (p : Layout) (u : Turns) (m : Blocks) (key : ℕ) (e : Entry) → IsShelf s → slot_at s.entries key ≡ Some e → Changes s.places p key None → OnlyOf key s.swap m
+    → blocks_of m key ≡ take 0 (blocks_of s.swap key) → Discards s (record s { places = p; turns = u; swap = m; entries = set s.entries key (Some (discarded_entry e)) }) key
+discards_is s p u m key e h slot c only none_left =
+    let l = within_at s.entries key (ap is_some slot) in
+    let out : find_in p.ranges key ≡ None = place-same s.places p key None c in
+    let here = slot-set_same s.entries key (Some (discarded_entry e)) l in
+    record {
+      shelf = ap (λ (o : Option Entry). record s { places = p; turns = u; swap = m; entries = set s.entries key (Some (discarded_entry (entry_or o))) }) (sym slot);
+      out = out;
+      blocks = none_left;
+      zeros = λ pic block j. (let z : ltb j 0 ≡ false = grind (arith, nat_tests) in rw (out, here, z) refl);
+      entries = λ k n. slot-set_other s.entries key k (Some (discarded_entry e)) n;
+      places = λ k n. place-other s.places p key k None c n;
+      bytes = λ pic block k j n. removed_byte s p u m key (Some (discarded_entry e)) h c only pic block k j n;
+    }

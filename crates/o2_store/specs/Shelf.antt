@@ -1,6 +1,7 @@
 -- Segments in a memory and out of it.
 use Rattle.std.specs.Prelude.{◌≡◌, ◌≢◌, ◌⊎◌, ℕ, ◌+◌, ◌-◌, ◌*◌, ◌/◌, ◌%◌, ◌<◌, ◌≤◌, ◌^◌, List, length, Option, Some, None, is_some, IsSome, Bool, true, false, ◌&&◌, ◌==◌}
 use Rattle.std.specs.Prelude.{if◌then◌else◌, nat_lt, slice_index_or, slice_set, IsTrue, slice_get, []}
+use Rattle.o2_entries.specs.declared.Attr.{Attr}
 use Rattle.o2_entries.specs.declared.Entry.{Entry}
 use Rattle.o2_entries.specs.Tables.{slot_at}
 use Rattle.o2_store.specs.declared.brought.Place.{Place}
@@ -22,7 +23,7 @@ pub record Shelf : Type 0 where
   pub keys : List ℕ
 
 abbrev pub no_entry : Entry
-no_entry = record { age = 0; size = 0; kept = 0; image = None; attr = record { flags = 0; lock = 0; clean = false; shared = false } }
+no_entry = record { age = 0; size = 0; kept = 0; image = None; attr = record { flags = 0; lock = 0; clean = false; shared = false; gone = false } }
 
 abbrev pub entry_or : Option Entry → Entry
 entry_or None = no_entry
@@ -113,6 +114,19 @@ pub record AreClean (s : Shelf) (pic : Pictures) : Type 0 where
 abbrev pub IsSaved : Bool → Pictures → Shelf → (ℕ → List ℕ) → ℕ → Type 0
 IsSaved told pic s block key = IsTrue told → (at len j : ℕ) → place_of s key ≡ Some (at, len) → j < (entry s key).size → out_byte s pic block key j ≡ slice_index_or s.memory (at + j) 0
 
+-- what may be discarded: its flags say so by bit 2, and it is neither clean nor locked
+pub record IsDiscardable (a : Attr) : Type 0 where
+  pub flag : (a.flags / 4 % 2 == 1) ≡ true
+  pub written : a.clean ≡ false
+  pub unlocked : a.lock ≡ 0
+
+-- a discarded segment: it has no place in memory, and none of its bytes is kept
+pub record IsGone (e : Entry) (place : Option (ℕ × ℕ)) : Type 0 where
+  pub out : place ≡ None
+  pub image : e.image ≡ None
+  pub kept : e.kept ≡ 0
+  pub kind : IsDiscardable e.attr
+
 -- what holds of a number's entry, its place in memory, its mark in the clock and how many blocks it has
 pub record IsSegment (made : ℕ) (o : Option Entry) (place : Option (ℕ × ℕ)) (present : Bool) (blocks : ℕ) : Type 0 where
   -- a range is as long as the size, rounded up
@@ -129,6 +143,7 @@ pub record IsSegment (made : ℕ) (o : Option Entry) (place : Option (ℕ × ℕ
   pub stored : (entry_or o).image ≡ None → blocks ≡ blocks_for (entry_or o).kept
   pub pure : IsSome (entry_or o).image → blocks ≡ 0
   pub clean : (entry_or o).attr.clean ≡ true → IsSome (entry_or o).image
+  pub gone : (entry_or o).attr.gone ≡ true → IsGone (entry_or o) place
 
 abbrev pub IsSegmentAt : Shelf → ℕ → Type 0
 IsSegmentAt s k = IsSegment s.made (slot_at s.entries k) (place_of s k) (mark_of s.turns.marks k).present (length (blocks_of s.swap k))
@@ -198,6 +213,25 @@ pub record Removes (old new : Shelf) (key : ℕ) : Type 0 where
   pub shelf : new ≡ record old { places = new.places; turns = new.turns; swap = new.swap; entries = slice_set old.entries key None }
   pub out : place_of new key ≡ None
   pub blocks : blocks_of new.swap key ≡ []
+  pub entries : (k : ℕ) → k ≢ key → slot_at new.entries k ≡ slot_at old.entries k
+  pub places : (k : ℕ) → k ≢ key → place_of new k ≡ place_of old k
+  pub bytes : (pic : Pictures) (block : ℕ → List ℕ) (k j : ℕ) → k ≢ key → byte_at new pic block k j ≡ byte_at old pic block k j
+
+-- a segment's entry once it is discarded: its size stays, and none of its bytes is kept
+abbrev pub discarded_entry : Entry → Entry
+discarded_entry e = record e { kept = 0; image = None; attr = record e.attr { gone = true } }
+
+-- a number's segment is discarded: it has no range and no blocks any more, its bytes are zeros, and all others keep what they have
+pub record Discards (old new : Shelf) (key : ℕ) : Type 0 where
+  pub shelf : new ≡ record old {
+    places = new.places;
+    turns = new.turns;
+    swap = new.swap;
+    entries = slice_set old.entries key (Some (discarded_entry (entry old key)));
+  }
+  pub out : place_of new key ≡ None
+  pub blocks : blocks_of new.swap key ≡ []
+  pub zeros : (pic : Pictures) (block : ℕ → List ℕ) (j : ℕ) → byte_at new pic block key j ≡ 0
   pub entries : (k : ℕ) → k ≢ key → slot_at new.entries k ≡ slot_at old.entries k
   pub places : (k : ℕ) → k ≢ key → place_of new k ≡ place_of old k
   pub bytes : (pic : Pictures) (block : ℕ → List ℕ) (k j : ℕ) → k ≢ key → byte_at new pic block k j ≡ byte_at old pic block k j

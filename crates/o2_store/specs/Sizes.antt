@@ -3,7 +3,8 @@ use Rattle.std.specs.Prelude.{◌≡◌, ◌≢◌, ℕ, ◌+◌, ◌<◌, ◌�
 use Rattle.o2_entries.specs.declared.Entry.{Entry}
 use Rattle.o2_entries.specs.Tables.{slot_at}
 use Rattle.o2_place.specs.declared.seg_id.SegId.{SegId}
-use Rattle.o2_place.specs.Layout.{Layout, find_in, over}
+use Rattle.o2_place.specs.Layout.{Layout, find_in, over, used}
+use Rattle.o2_compact.specs.Parts.{GrowsInPlace}
 use Rattle.o2_store.specs.Shelf.{Shelf, Pictures, SameEntry, entry, entry_or, byte_at, rounded}
 use Rattle.o2_store.specs.Needs.{named_in, wanted}
 
@@ -33,6 +34,10 @@ start_in p k = option_map (λ r. r.0) (find_in p.ranges k)
 -- each range begins where it did
 abbrev pub KeepsStarts : Layout → Layout → Type 0
 KeepsStarts p q = (k : ℕ) → start_in q k ≡ start_in p k
+
+-- a segment in memory that gets a size for which there is room where it lies keeps its address, and no other one moves or leaves
+abbrev pub StaysPut : (old new : Shelf) → (key size : ℕ) → Type 0
+StaysPut old new key size = used old.places.ranges + rounded size ≤ old.places.size + rounded (entry old key).size → GrowsInPlace old.places new.places key (rounded size)
 
 -- a range goes to another place with its bytes
 abbrev pub Goes : List ℕ → ℕ → ℕ → List ℕ → ℕ → Type 0

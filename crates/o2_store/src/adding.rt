@@ -4,7 +4,7 @@ ghost use Rattle.std.specs.Option.{IfNone};
 ghost use Rattle.o2_entries.specs.declared.Entry.{Entry};
 ghost use Rattle.o2_entries.specs.Tables.{slot_at, live_numbers};
 ghost use Rattle.o2_swapmap.specs.Piles.{all_of};
-ghost use Rattle.o2_store.specs.Shelf.{Adds, place_of, entry_of, entry, byte_at, Pictures, Removes, FollowsLock};
+ghost use Rattle.o2_store.specs.Shelf.{Adds, AreClean, Discards, IsDiscardable, discarded_entry, place_of, entry_of, entry, byte_at, Pictures, Removes, FollowsLock};
 ghost use Rattle.o2_place.specs.Marks.{mark_of};
 ghost use Rattle.o2_store.specs.Idle.{NoneTaken};
 
@@ -18,6 +18,7 @@ impl Store {
         requires size { (0 < size) × (size ≤ 65536) }
         requires unlocked { attr.lock ≡ 0 }
         requires written { attr.clean ≡ false }
+        requires whole { attr.gone ≡ false }
         requires made { self.old.made < 2 ^ 64 - 1 }
         ensures none { IfNone result ((length (live_numbers 0 self.old.entries) ≡ length self.old.entries) × (self.new ≡ self.old)) }
         ensures added { IfSome result (λ id. Adds self.old self.new id (record { age = self.old.made; size = size; kept = 0; image = None; attr = attr })) }
@@ -35,6 +36,7 @@ impl Store {
     pub fn add_image(&mut self, module: u16, seg: u16, size: u32, attr: Attr) -> Option<SegId>
         requires size { (0 < size) × (size ≤ 65536) }
         requires unlocked { attr.lock ≡ 0 }
+        requires whole { attr.gone ≡ false }
         requires made { self.old.made < 2 ^ 64 - 1 }
         ensures none { IfNone result ((length (live_numbers 0 self.old.entries) ≡ length self.old.entries) × (self.new ≡ self.old)) }
         ensures added { IfSome result (λ id. Adds self.old self.new id (record { age = self.old.made; size = size; kept = size; image = Some («module», seg); attr = attr })) }
@@ -60,6 +62,7 @@ impl Store {
         requires size { (0 < size) × (size ≤ 65536) }
         requires kept { kept ≤ size }
         requires unlocked { attr.lock ≡ 0 }
+        requires whole { attr.gone ≡ false }
         requires made { self.old.made < 2 ^ 64 - 1 }
         ensures none { IfNone result ((length (live_numbers 0 self.old.entries) ≡ length self.old.entries) × (self.new ≡ self.old)) }
         ensures added { IfSome result (λ id. Adds self.old self.new id (record { age = self.old.made; size = size; kept = kept; image = Some («module», seg); attr = attr })) }
@@ -79,6 +82,7 @@ impl Store {
         requires sourced { image ≡ None → kept ≡ 0 }
         requires unlocked { attr.lock ≡ 0 }
         requires clean { attr.clean ≡ true → IsSome image }
+        requires whole { attr.gone ≡ false }
         requires made { self.old.made < 2 ^ 64 - 1 }
         ensures none { IfNone result ((length (live_numbers 0 self.old.entries) ≡ length self.old.entries) × (self.new ≡ self.old)) }
         ensures added { IfSome result (λ id. Adds self.old self.new id (record { age = self.old.made; size = size; kept = kept; image = image; attr = attr })) }
@@ -128,11 +132,12 @@ impl Store {
         self.made -= 1;
     }
 
-    /// Sets a segment's attributes. One that gets a lock is in memory, and it stays clean or not. False exactly where it
-    /// is stale.
+    /// Sets a segment's attributes. One that gets a lock is in memory, and it stays clean or not. One that was discarded is so no
+    /// more: it is made anew, with bytes that are zero. False exactly where it is stale.
     pub fn set_attr(&mut self, id: SegId, attr: Attr) -> bool
         requires lock { 0 < attr.lock → IsSome (entry_of self.old id) → IsSome (place_of self.old id.key) }
         requires clean { IfSome (entry_of self.old id) (λ e. attr.clean ≡ e.attr.clean) }
+        requires whole { attr.gone ≡ false }
         ensures live { IsTrue result ↔ IsSome (entry_of self.old id) }
         ensures stale { result ≡ false → self.new ≡ self.old }
         ensures set { result ≡ true → self.new ≡ record self.old { turns = self.new.turns; entries = slice_set self.old.entries id.key (Some (record (entry self.old id.key) { attr = attr })) } }
@@ -152,6 +157,44 @@ impl Store {
         self.entries.set(id.key, entry);
         tell(&mut self.clock, id.key, old.attr.lock, attr.lock);
         true
+    }
+
+    /// Discards a segment that may be: its range and its blocks are free, its bytes are zeros, and it stays out of memory until
+    /// `set_attr` makes it anew. Its size and its other attributes stay. False exactly where it is stale.
+    pub fn discard(&mut self, id: SegId) -> bool
+        requires { IfSome (entry_of self.old id) (λ e. IsDiscardable e.attr) }
+        ensures live { IsTrue result ↔ IsSome (entry_of self.old id) }
+        ensures stale { result ≡ false → self.new ≡ self.old }
+        ensures discarded { result ≡ true → Discards self.old self.new id.key }
+        ensures clean { (pic : Pictures) → AreClean self.old pic → AreClean self.new pic }
+        ensures map { all_of self.new.swap ≡ all_of self.old.swap }
+        ensures unused { NoneTaken self.old.swap → NoneTaken self.new.swap }
+    {
+        let Some(old) = self.find(id) else {
+            return false;
+        };
+        let key = id.key;
+        self.places.take(key);
+        self.clock.leave(key);
+        self.swap.give(key, 0);
+        self.entries.set(key, discarded(old));
+        true
+    }
+}
+
+// A segment's entry once it is discarded.
+fn discarded(old: Entry) -> Entry
+    ensures { result ≡ discarded_entry old }
+{
+    Entry {
+        age: old.age,
+        size: old.size,
+        kept: 0,
+        image: None,
+        attr: Attr {
+            gone: true,
+            ..old.attr
+        },
     }
 }
 

@@ -1,5 +1,5 @@
 // Room is made in memory, and segments are brought in.
-ghost use Rattle.std.specs.Prelude.{◌≡◌, ◌≢◌, ℕ, ◌+◌, ◌<◌, ◌≤◌, ◌↔◌, ◌||◌, ◌==◌, ◌⊎◌, length, Some, None, IsSome, IsTrue, IfSome, true};
+ghost use Rattle.std.specs.Prelude.{◌≡◌, ◌≢◌, ℕ, ◌+◌, ◌<◌, ◌≤◌, ◌↔◌, ◌||◌, ◌==◌, ◌⊎◌, length, Some, None, IsSome, IsTrue, IfSome, true, false};
 ghost use Rattle.std.specs.Option.{IfNone};
 ghost use Rattle.o2_entries.specs.Tables.{slot_at};
 ghost use Rattle.o2_place.specs.Layout.{IsFree, used};
@@ -121,6 +121,7 @@ impl Store {
     fn bring_key<S: SwapDevice>(&mut self, key: u32, images: &Images, swap: &mut S) -> Brought
         requires live { IsSome (slot_at self.old.entries key) }
         requires among { has self.old.keys key ≡ true }
+        requires whole { (entry self.old key).attr.gone ≡ false }
         requires fits { all_need self.old.entries self.old.keys ≤ self.old.places.size }
         requires pictures { HasAll (HasPicture images.now) self.old }
         requires device { all_of self.old.swap ≤ S.blocks swap.old }
@@ -169,6 +170,7 @@ impl Store {
         requires live { IsSome (slot_at self.old.entries key) }
         requires len { len ≡ rounded (entry self.old key).size }
         requires out { place_of self.old key ≡ None }
+        requires whole { (entry self.old key).attr.gone ≡ false }
         requires room { used self.old.places.ranges + len ≤ self.old.places.size }
         requires pictures { HasAll (HasPicture images.now) self.old }
         requires device { all_of self.old.swap ≤ S.blocks swap.old }
@@ -200,7 +202,7 @@ impl Store {
     /// Brings a segment into memory together with those of `keep` and the locked ones. Gaps are closed before anything is
     /// evicted: where enough bytes are in no range, nothing leaves the memory, and else no more than must. Whatever the
     /// answer, each segment keeps its bytes, and one of `keep` or a locked one that is in memory stays there. No other segment
-    /// comes in, and where this one is in memory already, nothing changes.
+    /// comes in, and where this one is in memory already, nothing changes. It isn't discarded.
     pub fn bring<S: SwapDevice>(
         &mut self,
         id: SegId,
@@ -208,6 +210,7 @@ impl Store {
         images: &Images,
         swap: &mut S,
     ) -> Brought
+        requires whole { IsSome (entry_of self.old id) → (entry self.old id.key).attr.gone ≡ false }
         requires pictures { HasAll (HasPicture images.now) self.old }
         requires backed { IsBacked self.old images.now (S.blocks swap.old) }
 

@@ -1,7 +1,7 @@
 // A range of the memory gets another length.
-ghost use Rattle.std.specs.Prelude.{◌≡◌, ◌⊎◌, ℕ, ◌+◌, ◌<◌, ◌≤◌, length, Some, IsSome, slice_index};
+ghost use Rattle.std.specs.Prelude.{◌≡◌, ◌⊎◌, ℕ, ◌+◌, ◌<◌, ◌≤◌, length, Some, None, IsSome, slice_index};
 ghost use Rattle.o2_place.specs.Layout.{find_in, used};
-ghost use Rattle.o2_compact.specs.Parts.{StayBut};
+ghost use Rattle.o2_compact.specs.Parts.{GrowsInPlace, StayBut};
 ghost use Rattle.o2_store.specs.Shelf.{rounded};
 ghost use Rattle.o2_store.specs.Sizes.{Refits, Relengths, KeepsStarts};
 
@@ -18,7 +18,9 @@ pub(crate) fn refit(phys: &mut Phys, places: &mut Places, key: u32, old: u32, ne
     requires long { (at len : ℕ) → find_in places.old.ranges key ≡ Some (at, len) → len ≡ rounded old }
     requires room { IsSome (find_in places.old.ranges key) → used places.old.ranges + rounded new ≤ places.old.size + rounded old }
     ensures refits { Refits phys.old places.old phys.new places.new key old new }
+    ensures none { find_in places.old.ranges key ≡ None → places.new ≡ places.old }
     ensures in_place { rounded new ≤ rounded old → KeepsStarts places.old places.new }
+    ensures grows { GrowsInPlace places.old places.new key (rounded new) }
 {
     let Some((_, was)) = places.find(key) else {
         return;
@@ -37,6 +39,7 @@ fn relength(phys: &mut Phys, places: &mut Places, key: u32, was: u32, len: u32)
     requires room { used places.old.ranges + len ≤ places.old.size + was }
     ensures relengths { Relengths phys.old places.old phys.new places.new key len }
     ensures in_place { len ≤ was → KeepsStarts places.old places.new }
+    ensures grows { GrowsInPlace places.old places.new key len }
 {
     places.law();
     if len == was {

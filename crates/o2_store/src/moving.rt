@@ -89,6 +89,7 @@ impl Store {
         requires key { key < length self.old.entries }
         requires live { IsSome (slot_at self.old.entries key) }
         requires out { place_of self.old key ≡ None }
+        requires whole { (entry self.old key).attr.gone ≡ false }
         requires free { IsFree self.old.places.size self.old.places.ranges at (rounded (entry self.old key).size) }
         ensures keeps { (told : Bool) (pic : Pictures) (block : ℕ → List ℕ) → (IsTrue told → (j : ℕ) → j < (entry self.old key).size → slice_index self.old.memory (at + j) ≡ out_byte self.old pic block key j) → KeepsAll told pic self.old block self.new block }
         ensures clean { (pic : Pictures) (block : ℕ → List ℕ) → (IsSome (entry self.old key).image → (j : ℕ) → j < (entry self.old key).size → slice_index self.old.memory (at + j) ≡ out_byte self.old pic block key j) → AreClean self.old pic → AreClean self.new pic }
@@ -128,6 +129,7 @@ impl Store {
         requires live { IsSome (slot_at self.old.entries key) }
         requires len { len ≡ rounded (entry self.old key).size }
         requires out { place_of self.old key ≡ None }
+        requires whole { (entry self.old key).attr.gone ≡ false }
         requires room { used self.old.places.ranges + len ≤ self.old.places.size }
         requires pictures { HasAll (HasPicture images.now) self.old }
         requires device { all_of self.old.swap ≤ S.blocks swap.old }

@@ -10,7 +10,7 @@ ghost use Rattle.o2_store.specs.Leaving.{IsWrittenOut};
 ghost use Rattle.o2_store.specs.Loads.{swap_load, live_load_at};
 ghost use Rattle.o2_store.specs.Needs.{has, all_need, named_in};
 ghost use Rattle.o2_store.specs.Pictures.{picture};
-ghost use Rattle.o2_store.specs.Sizes.{Resizes, KeepsStarts, stays, all_wanted_at};
+ghost use Rattle.o2_store.specs.Sizes.{StaysPut, Resizes, KeepsStarts, stays, all_wanted_at};
 ghost use Rattle.o2_store.specs.Idle.{Idles, NoneTaken};
 
 use crate::brought::Brought;
@@ -35,6 +35,9 @@ impl Store {
         ensures presence { (k : ℕ) → is_some (place_of self.new k) ≡ is_some (place_of self.old k) }
         ensures others { (k : ℕ) → k ≢ key → slot_at self.new.entries k ≡ slot_at self.old.entries k }
         ensures in_place { rounded size ≤ rounded (entry self.old key).size → KeepsStarts self.old.places self.new.places }
+        ensures grows { StaysPut self.old self.new key size }
+        ensures rests { place_of self.old key ≡ None → self.new.places ≡ self.old.places }
+        ensures kept { (entry self.new key).kept ≤ (entry self.old key).kept }
     {
         self.law();
         let Some(old) = self.entries.get(key) else {
@@ -64,6 +67,7 @@ impl Store {
         ensures still { used self.old.places.ranges + rounded size ≤ self.old.places.size + rounded (entry self.old key).size → IsSome (place_of self.new key) }
         ensures held { (result ≡ Brought.Here → ⊥) → IsSome (place_of self.new key) }
         ensures in_place { rounded size ≤ rounded (entry self.old key).size → KeepsStarts self.old.places self.new.places }
+        ensures grows { result ≡ Brought.Here → StaysPut self.old self.new key size }
         ensures written { (k : ℕ) → k ≢ key → IsSome (place_of self.old k) → place_of self.new k ≡ None
             → (entry self.old k).attr.clean ≡ false → IsWrittenOut self.old self.new k }
         ensures full { result ≡ Brought.SwapFull → IsFull self.new × (self.new.places.size + rounded (entry self.old key).size < used self.new.places.ranges + rounded size) }
@@ -120,6 +124,7 @@ impl Store {
         ensures written { (k : ℕ) → k ≢ key → IsSome (place_of self.old k) → place_of self.new k ≡ None
             → (entry self.old k).attr.clean ≡ false → IsWrittenOut self.old self.new k }
         ensures in_place { rounded size ≤ rounded (entry self.old key).size → KeepsStarts self.old.places self.new.places }
+        ensures grows { result ≡ Brought.Here → StaysPut self.old self.new key size }
         ensures never { result ≡ Brought.Stale → ⊥ }
         ensures idle { Idles (live_load_at self.old key size) self.old self.new swap.old swap.new }
     {
@@ -164,11 +169,14 @@ impl Store {
         ensures written { (k : ℕ) → k ≢ id.key → IsSome (place_of self.old k) → place_of self.new k ≡ None
             → (entry self.old k).attr.clean ≡ false → IsWrittenOut self.old self.new k }
 
+        // It stays where it lies if it gets smaller, and also where there is room behind it.
         ensures in_place { rounded size ≤ rounded (entry self.old id.key).size → KeepsStarts self.old.places self.new.places }
+        ensures grows { result ≡ Brought.Here → StaysPut self.old self.new id.key size }
 
         ensures outside { IsSome (entry_of self.old id) → place_of self.old id.key ≡ None → result ≡ Brought.Here }
         ensures rests { place_of self.old id.key ≡ None
             → (swap.new ≡ swap.old) × ((k : ℕ) → is_some (place_of self.new k) ≡ is_some (place_of self.old k)) }
+        ensures unused { place_of self.old id.key ≡ None → NoneTaken self.old.swap → NoneTaken self.new.swap }
         ensures refused { result ≡ Brought.NoRoom
             → (self.new ≡ record self.old { keys = self.new.keys }) × (swap.new ≡ swap.old) }
         ensures stale { result ≡ Brought.Stale → entry_of self.old id ≡ None }
@@ -193,6 +201,22 @@ impl Store {
             return self.resize_kept(id.key, size, keep, swap);
         }
         self.resize_free(id.key, size, swap)
+    }
+
+    /// Gives a live segment that is out of memory another size of 1 to 65,536 bytes. Its bytes below both sizes stay, grown ones are
+    /// zero, and it stays out of memory. No other segment changes or moves, and no device is asked.
+    pub fn resize_out(&mut self, id: SegId, size: u32)
+        requires live { IsSome (entry_of self.old id) }
+        requires out { place_of self.old id.key ≡ None }
+        requires sizes { (0 < size) × (size ≤ 65536) }
+        ensures resizes { (told : Bool) (pic : Pictures) (block : ℕ → List ℕ) → Resizes told pic self.old block self.new block id.key size }
+        ensures clean { (pic : Pictures) → AreClean self.old pic → AreClean self.new pic }
+        ensures map { all_of self.new.swap ≡ all_of self.old.swap }
+        ensures unused { NoneTaken self.old.swap → NoneTaken self.new.swap }
+        ensures places { self.new.places ≡ self.old.places }
+        ensures kept { (entry self.new id.key).kept ≤ (entry self.old id.key).kept }
+    {
+        self.set_size(id.key, size);
     }
 
     // Whether a segment may not leave the memory.
@@ -236,6 +260,7 @@ impl Store {
         ensures written { (k : ℕ) → k ≢ key → IsSome (place_of self.old k) → place_of self.new k ≡ None
             → (entry self.old k).attr.clean ≡ false → IsWrittenOut self.old self.new k }
         ensures in_place { rounded size ≤ rounded (entry self.old key).size → KeepsStarts self.old.places self.new.places }
+        ensures grows { result ≡ Brought.Here → StaysPut self.old self.new key size }
         ensures never { (result ≡ Brought.NoRoom → ⊥) × (result ≡ Brought.Stale → ⊥) }
         ensures idle { Idles (live_load_at self.old key size) self.old self.new swap.old swap.new }
     {

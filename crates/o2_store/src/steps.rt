@@ -72,7 +72,8 @@ impl Store {
         }
     }
 
-    /// Brings a live segment that is out of memory into a gap that is long enough for it. No other one comes, goes or slides.
+    /// Brings a live segment that is out of memory, and isn't discarded, into a gap that is long enough for it. No other one comes,
+    /// goes or slides.
     pub fn bring_to_gap<S: SwapDevice>(
         &mut self,
         id: SegId,
@@ -81,6 +82,7 @@ impl Store {
     ) -> Brought
         requires live { IsSome (entry_of self.old id) }
         requires out { place_of self.old id.key ≡ None }
+        requires whole { (entry self.old id.key).attr.gone ≡ false }
         requires room { used self.old.places.ranges + rounded (entry self.old id.key).size ≤ self.old.places.size }
         requires gap { (at : ℕ) × IsFree self.old.places.size self.old.places.ranges at (rounded (entry self.old id.key).size) }
         requires pictures { HasAll (HasPicture images.now) self.old }

@@ -1,4 +1,4 @@
-use Rattle.o2_segbus.proofs.Keeping.{holds_stay, sizes_stay, presence_stays, ages_kept, guards_stay}
+use Rattle.o2_segbus.proofs.Keeping.{holds_stay, sizes_stay, presence_stays, marks_stay, ages_kept, guards_stay}
 use Rattle.o2_segbus.proofs.laws.frames_keep.Goals as goal
 
 pub returns-clause-holds : goal.returns-clause-holds
@@ -9,6 +9,9 @@ returns-clause-sizes c = sizes_stay
 
 pub returns-clause-present : goal.returns-clause-present
 returns-clause-present c = presence_stays
+
+pub returns-clause-gone : goal.returns-clause-gone
+returns-clause-gone c = marks_stay
 
 pub returns-clause-ages : goal.returns-clause-ages
 returns-clause-ages c = ages_kept

@@ -1,11 +1,11 @@
-use Rattle.std.proofs.Common.{◌≡◌, ◌≢◌, ◌<◌, ◌≤◌, ◌∙◌, ap, arith, ℕ, None, IsSome, refl, subst, sym, true}
+use Rattle.std.proofs.Common.{◌≡◌, ◌≢◌, ◌<◌, ◌≤◌, ◌∙◌, ap, arith, ℕ, None, IsSome, refl, subst, sym, true, false}
 use Rattle.o2_entries.specs.Tables.{slot_at}
 use Rattle.o2_swapmap.specs.Piles.{all_of, blocks_of}
 use Rattle.o2_store.specs.Idle.{NoneTaken}
 use Rattle.o2_store.specs.Loads.{live_load, swap_load}
 use Rattle.o2_store.specs.Needs.{all_wanted, named_in}
 use Rattle.o2_store.specs.Pictures.{picture, HasPicture}
-use Rattle.o2_store.specs.Shelf.{Shelf, HasAll, entry_of, place_of}
+use Rattle.o2_store.specs.Shelf.{Shelf, HasAll, entry, entry_of, place_of}
 use Rattle.o2_store.proofs.Asking.{asks_behind, asks_nothing}
 use Rattle.o2_store.proofs.Departing.{leave_same, leave_still, slide_keys}
 use Rattle.o2_store.proofs.Keeping.{keeps_refl, keys_clean, keys_keep}
@@ -35,6 +35,7 @@ returns-then-not-fits g c =
       slide = λ start k f d i. ap (λ (z : Shelf). place_of z k) e;
       asks = λ n. asks_nothing _ _ _ _ _ refl (λ r. absurd cc);
       here = λ r. absurd cc;
+      out = λ r n. ap (λ (z : Shelf). place_of z c.args.id.key) e ∙ n;
       no_room = λ r. c.fits.ensures.none c.if-not-fits.true;
       absent = λ r. base_none (entry_of s c.args.id) (place_of s c.args.id.key) c.requires.live (rw c.base.ensures at (sym c.is_some.ensures ∙ c.if-is_some.false));
       always_no_room = λ n l. refl;
@@ -52,6 +53,7 @@ bring_in-requires g c =
     let n = base_none (entry_of s c.args.id) (place_of s c.args.id.key) c.requires.live (rw c.base.ensures at (sym c.is_some.ensures ∙ c.if-is_some.false)) in
     record {
       live = subst (λ (z : Shelf). IsSome (entry_of z c.args.id)) (sym e) c.requires.live;
+      whole = subst (λ (z : Shelf). (entry z c.args.id.key).attr.gone ≡ false) (sym e) c.requires.whole;
       out = ap (λ (z : Shelf). place_of z c.args.id.key) e ∙ n;
       fits = subst (λ (z : Shelf). all_wanted z c.args.id.key c.args.keep.now ≤ z.places.size) (sym e) (c.fits.ensures.fits c.if-not-fits.false);
       held = held_keys s t c.args.regions.now e c.requires.held;
@@ -83,6 +85,7 @@ returns g c =
       slide = slide_keys s t u c.args.id.key e q.slide;
       asks = λ n. asks_behind _ _ _ _ _ _ _ _ (ap (λ (z : Shelf). blocks_of z.swap c.args.id.key) e) refl (λ r. r) q.asks;
       here = q.here;
+      out = λ r n. q.out r;
       no_room = λ r. absurd (q.never.0 r);
       absent = λ r. absurd (q.never.0 r);
       always_no_room = λ n l. absurd (let room = c.fits.ensures.fits c.if-not-fits.false in omega (arith, room, l));

@@ -10,7 +10,7 @@ use Rattle.o2_store.proofs.Asking.{asks_behind, asks_nothing}
 use Rattle.o2_store.proofs.Departing.{gap_left, leave_in, leave_out}
 use Rattle.o2_store.proofs.Loads.{out_load}
 use Rattle.o2_store.proofs.Keeping.{keeps_trans, tables_trans, keeps_later}
-use Rattle.o2_service.proofs.Among.{live_same}
+use Rattle.o2_service.proofs.Among.{live_same, whole_same}
 use Rattle.o2_service.proofs.Movings.{follows_trans, not_there}
 use Rattle.o2_store.proofs.Framing.{device_behind}
 use Rattle.o2_service.proofs.bringing.bring_in.Goals as goal
@@ -30,6 +30,7 @@ returns-in_default g c =
       slide = λ start k f d i. r.still k i;
       asks = asks_nothing _ _ _ _ _ r.unasked (λ x. absurd (c.in_default.not-Here x));
       here = λ x. absurd (c.in_default.not-Here x);
+      out = λ x. r.none c.args.id.key c.requires.out;
       loads = r.loads;
       stuck = λ x. record { full = r.full x; out = r.none c.args.id.key c.requires.out; same = r.entry };
       idle = λ none load.
@@ -62,6 +63,7 @@ fill_gap-requires g c =
     let tables : SameTables s u = tables_trans s t u r.tables k.tables in
     record {
       live = live_same s u c.args.id tables c.requires.live;
+      whole = whole_same s u c.args.id.key tables c.requires.whole;
       out = not_there (place_of u c.args.id.key) (q.presence c.args.id.key ∙ ap is_some (r.none c.args.id.key c.requires.out));
       room = q.room;
       gap = q.gap;
@@ -116,6 +118,7 @@ returns-in-Here g c =
           (let gap = gap_left s t v key start r.tables r.still out present g in
           f.alone j n ∙ (ap (λ (z : Shelf). place_of z j) (q.alone start gap).0 ∙ r.still j (sym (present j n) ∙ i)));
       here = f.here;
+      out = f.out;
       loads = λ x. absurd (f.never.2 x);
       stuck = λ x. absurd (f.never.2 x);
       idle = λ none load.

@@ -5,7 +5,7 @@ use Rattle.o2_store.specs.Pictures.{picture}
 use Rattle.o2_store.proofs.Departing.{leave_still}
 use Rattle.o2_store.proofs.Keeping.{keeps_refl, keeps_trans, tables_trans, locked_stay, keeps_later}
 use Rattle.o2_store.proofs.Loads.{same_live_load}
-use Rattle.o2_service.proofs.Among.{all_live_same, loads_after, needs_at, only_refl, only_trans, present_more, same_needed, stays_refl, stays_trans}
+use Rattle.o2_service.proofs.Among.{all_live_same, all_whole_same, loads_after, needs_at, only_refl, only_trans, present_more, same_needed, stays_refl, stays_trans}
 use Rattle.o2_service.proofs.Departed.{leave_needs}
 use Rattle.o2_service.proofs.Movings.{follows_refl, follows_trans}
 use Rattle.o2_store.proofs.Framing.{device_behind}
@@ -19,6 +19,7 @@ loop-k-init g c = record {
   told = λ w. w;
   map = refl;
   live = c.requires.live;
+  whole = c.requires.whole;
   pictured = c.requires.pictures;
   stays = stays_refl c.args.need.now c.args.store.now;
   only = only_refl c.args.need.now c.args.store.now;
@@ -37,6 +38,14 @@ bring_one-requires-clause-live g c =
     let d : SegId × ℕ = (record { key = 0; age = 0 }, 0) in
     let l : k < length need = rw c.pairs-pairs.ensures.pairs at c.loop-k-test.true in
     rw c.pairs-pairs.ensures.pairs (c.loop-k.invariant.live.each k (get_or need k d) (slice_get-get_or need k d l))
+
+pub bring_one-requires-clause-whole : goal.bring_one-requires-clause-whole
+bring_one-requires-clause-whole g c =
+    let need = c.args.need.now in
+    let k = c.loop-k.k in
+    let d : SegId × ℕ = (record { key = 0; age = 0 }, 0) in
+    let l : k < length need = rw c.pairs-pairs.ensures.pairs at c.loop-k-test.true in
+    rw c.pairs-pairs.ensures.pairs (c.loop-k.invariant.whole.each k (get_or need k d) (slice_get-get_or need k d l))
 
 pub bring_one-requires-clause-among : goal.bring_one-requires-clause-among
 bring_one-requires-clause-among g c =
@@ -101,6 +110,7 @@ loop-k-preserved g c =
       map = e.map ∙ i.map;
       follows = follows_trans c.args.regions.now c.loop-k.regions c.bring_one.new.regions t u i.follows e.follows;
       live = all_live_same t u need q i.live;
+      whole = all_whole_same t u need q i.whole;
       pictured = λ j m seg x. i.pictured j m seg ((q.same j).image (m, seg) x);
       stays = stays_trans need s t u i.stays e.stays;
       only = only_trans need s t u i.only e.only;

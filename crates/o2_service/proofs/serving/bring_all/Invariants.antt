@@ -5,7 +5,7 @@ use Rattle.o2_store.specs.Leaving.{LeaveFor}
 use Rattle.o2_store.specs.Loads.{live_load}
 use Rattle.o2_store.specs.Pictures.{picture, HasPicture}
 use Rattle.o2_store.specs.Shelf.{AreClean, HasAll, KeepsAll}
-use Rattle.o2_service.specs.Needs.{AreLive, ArePresent, OnlyNeededComes, Stays, all_needed}
+use Rattle.o2_service.specs.Needs.{AreLive, ArePresent, AreWhole, OnlyNeededComes, Stays, all_needed}
 use Rattle.o2_service.specs.Told.{Follows}
 use Rattle.o2_service.proofs.serving.bring_all.Given as goal
 
@@ -19,6 +19,7 @@ invariant-loop-k g l =
       told : IsTrue (S.told l.swap) → IsTrue (S.told l.initial.swap);
       map : all_of l.store.swap ≡ all_of l.initial.store.swap;
       live : AreLive l.store l.need;
+      whole : AreWhole l.store l.need;
       pictured : HasAll (HasPicture l.images) l.store;
       stays : Stays l.need l.initial.store l.store;
       only : OnlyNeededComes l.need l.initial.store l.store;

@@ -8,7 +8,7 @@ use Rattle.o2_store.specs.Shelf.{Shelf, HasAll}
 use Rattle.o2_store.proofs.Departing.{leave_same, leave_still}
 use Rattle.o2_service.specs.Needs.{AreServed}
 use Rattle.o2_service.proofs.Fitting.{all_present}
-use Rattle.o2_service.proofs.Clocks.{clean_marked, held_learned, keeps_marked, live_marked, locked_marked, needed_marked, only_bits, only_marked, settled_learned, stays_marked}
+use Rattle.o2_service.proofs.Clocks.{clean_marked, held_learned, keeps_marked, live_marked, locked_marked, needed_marked, only_bits, only_marked, settled_learned, stays_marked, whole_marked}
 use Rattle.o2_service.proofs.Placing.{only_trans}
 use Rattle.o2_service.proofs.serving.serve.Goals as goal
 
@@ -19,6 +19,7 @@ bring_all-requires g c =
     let l = c.learn.ensures.learned in
     record {
       live = live_marked s t c.args.need.now l.rest c.requires.live;
+      whole = whole_marked s t c.args.need.now l.rest c.requires.whole;
       fits = needed_marked s t c.args.need.now l.rest (c.is_room.ensures.room c.if-not-is_room.false);
       held = held_learned s t c.args.regions.now c.learn.new.regions l c.requires.held;
       settled = settled_learned s t c.args.regions.now c.learn.new.regions l c.requires.settled;

@@ -52,5 +52,5 @@ pub returns-clause-segment : goal.returns-clause-segment
 returns-clause-segment c =
     let w : Stored = record { store = c.add_front-added.new.self; regions = c.args.self.now.regions; ids = c.push.new.self } in
     add_segment c.args.self.now w c.args._images.now c.args.grip.now c.args.size c.args.room c.args.self.now.store.made c.attributes-attr.result c.in-Some.id c.requires.whole c.in-Some.ensures.added refl refl c.in_ok-push.ensures.items
-    (picture_there c.args._images.now c.args.grip.now.place c.args.grip.now.number c.requires.image) c.in-Some.ensures.bytes c.attributes-attr.ensures.clean c.attributes-attr.ensures.shared c.attributes-attr.ensures.flags c.attributes-attr.ensures.lock
+    (picture_there c.args._images.now c.args.grip.now.place c.args.grip.now.number c.requires.image) c.in-Some.ensures.bytes c.attributes-attr.ensures.clean c.attributes-attr.ensures.shared c.attributes-attr.ensures.flags c.attributes-attr.ensures.lock c.attributes-attr.ensures.whole
     c.in-Some.id.age refl

@@ -19,4 +19,4 @@ invariant_of-self c =
     ≡ 0 = ap (λ (o : Option Entry). if ltb 0 (entry_or o).attr.lock then rounded (entry_or o).size else 0)
     (slot-set_same i.entries key (Some e) v.0) ∙ ap (λ (x : _). if ltb 0 x then rounded c.args.size else 0) c.requires.unlocked in
     let a = locked-set i.entries key (Some e) v.0 in
-    rw c.add.ensures (IsShelf-add s key e h v.0 v.1 (omega arith) c.requires.size.0 c.requires.size.1 c.requires.kept c.requires.sourced c.requires.unlocked c.requires.clean, omega (arith, a, z, y, c.self.invariant.1), rw n c.self.invariant.2)
+    rw c.add.ensures (IsShelf-add s key e h v.0 v.1 (omega arith) c.requires.size.0 c.requires.size.1 c.requires.kept c.requires.sourced c.requires.unlocked c.requires.clean c.requires.whole, omega (arith, a, z, y, c.self.invariant.1), rw n c.self.invariant.2)

@@ -23,7 +23,7 @@ invariant_of-self-2 c =
     (λ (o : Option Entry). if ltb 0 (entry_or o).attr.lock then rounded (entry_or o).size else 0)
     (slot-set_same i.entries c.args.key (Some f) l) in
     rw c.set.ensures (
-      IsShelf-reserve s c.fit_blocks.new.swap c.args.key c.args.kept c.in-Some.old h slot c.fit_blocks.ensures.only (c.fit_blocks.ensures.enough c.if-not-fit_blocks.false) (rw (← c.self.view_is, e_is) at c.requires.kept) (rw (← c.self.view_is, e_is) at c.requires.written),
+      IsShelf-reserve s c.fit_blocks.new.swap c.args.key c.args.kept c.in-Some.old h slot c.fit_blocks.ensures.only (c.fit_blocks.ensures.enough c.if-not-fit_blocks.false) (rw (← c.self.view_is, e_is) at c.requires.kept) (rw (← c.self.view_is, e_is) at c.requires.written) (rw (← c.self.view_is) at c.requires.placed),
       omega (arith, a, x, y, c.self.invariant.1),
       rw (length-set i.entries c.args.key (Some f)) c.self.invariant.2,
     )

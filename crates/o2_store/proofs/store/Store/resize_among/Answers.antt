@@ -2,7 +2,7 @@ use Rattle.std.proofs.Common.{◌≡◌, ◌+◌, ◌<◌, ◌≤◌, length, ap
 use Rattle.o2_place.specs.Layout.{used}
 use Rattle.o2_store.specs.Needs.{all_need}
 use Rattle.o2_store.specs.Shelf.{Shelf, entry, rounded}
-use Rattle.o2_store.specs.Sizes.{start_in}
+use Rattle.o2_store.specs.Sizes.{StaysPut, start_in}
 use Rattle.o2_store.proofs.Leaving.{written_after}
 use Rattle.o2_store.proofs.Loads.{full_load, sized_load, same_swap_load, same_load_at}
 use Rattle.o2_store.proofs.Tables.{within_at}
@@ -31,6 +31,12 @@ returns-in-Here-clause-in_place g c = λ q.
     let l : used s.places.ranges + c.saturating_sub-growth.result ≤ s.places.size = omega (arith, q, c.saturating_sub-growth.ensures, c.rounded_size.ensures.value, c.law.ensures.room) in
     let e = c.evict_until-answer.ensures.enough l in
     λ k. c.set_size.ensures.in_place (subst (λ (x : Shelf). rounded c.args.size ≤ rounded (entry x c.args.key).size) (sym e) q) k ∙ ap (λ (x : Shelf). start_in x.places k) e)
+
+pub returns-in-Here-clause-grows : goal.returns-in-Here-clause-grows
+returns-in-Here-clause-grows g c = λ a q.
+    (let s = c.args.self.now in
+    let l : used s.places.ranges + c.saturating_sub-growth.result ≤ s.places.size = omega (arith, q, c.saturating_sub-growth.ensures, c.rounded_size.ensures.value, c.law.ensures.room) in
+    subst (λ (x : Shelf). StaysPut x c.set_size.new.self c.args.key c.args.size) (c.evict_until-answer.ensures.enough l) c.set_size.ensures.grows q)
 
 pub returns-in-Here-clause-idle : goal.returns-in-Here-clause-idle
 returns-in-Here-clause-idle g c = λ none load.
@@ -87,6 +93,7 @@ returns-in_default g c =
           let f : used t.places.ranges ≡ used s.places.ranges = ap (λ (x : Shelf). used x.places.ranges) e in
           let z : t.places.size ≡ s.places.size = ap (λ (x : Shelf). x.places.size) e in
           omega (arith, l, f, z, v.ensures.short c.in_default.not-Here));
+      grows = λ e. absurd (c.in_default.not-Here e);
       never = (
         λ e.
             (let n = need_holds t t.keys c.law-2.ensures.shelf (v.ensures.no_room e) c.law-2.ensures.sum in

@@ -43,7 +43,7 @@ invariant_of-self c =
     (need_is (set i.entries key (Some f)) key f c.locked_part-2.result (slot-set_same i.entries key (Some f) l) c.locked_part-2.ensures.value) in
     let lock = rw (← c.self.view_is) at c.requires.lock in
     let clean = rw (← c.self.view_is, was) at c.requires.clean in
-    rw c.set.ensures (IsShelf-attr s c.tell.new.clock key e c.args.attr h l slot c.tell.ensures.long c.tell.ensures.others c.tell.ensures.follows (λ w. lock w (ap is_some was)) clean, r.1, rw (length-set i.entries key (Some f)) c.self.invariant.2)
+    rw c.set.ensures (IsShelf-attr s c.tell.new.clock key e c.args.attr h l slot c.tell.ensures.long c.tell.ensures.others c.tell.ensures.follows (λ w. lock w (ap is_some was)) clean c.requires.whole, r.1, rw (length-set i.entries key (Some f)) c.self.invariant.2)
 
 pub returns-clause-bytes : goal.returns-clause-bytes
 returns-clause-bytes c =

@@ -5,7 +5,7 @@ use Rattle.o2_entries.specs.Tables.{slot_at}
 use Rattle.o2_swapmap.specs.Piles.{blocks_of}
 use Rattle.o2_store.specs.Shelf.{Shelf, locked_need, blocks_for}
 use Rattle.o2_store.proofs.Tables.{within_at, need_is, relocked, slot-set_same, all_small}
-use Rattle.o2_store.proofs.Grown.{at_size, Grows, IsShelf-grown, resizes_is, clean_grown, fit_presence}
+use Rattle.o2_store.proofs.Grown.{at_size, kept_less, Grows, IsShelf-grown, resizes_is, clean_grown, fit_presence}
 use Rattle.o2_store.proofs.Idling.{none_given}
 use Rattle.o2_store.proofs.store.Store.set_size.Goals as goal
 
@@ -99,3 +99,12 @@ pub returns-clause-unused : goal.returns-clause-unused
 returns-clause-unused c =
     let i = c.self.inside in
     rw (← c.self.view_is) (none_given i.swap c.give.new.self c.args.key _ c.give.ensures.only c.give.ensures.kept)
+
+pub returns-clause-kept : goal.returns-clause-kept
+returns-clause-kept c =
+    let i = c.self.inside in
+    let key = c.args.key in
+    let e = c.in-Some.old in
+    let slot : slot_at i.entries key ≡ Some e = sym c.in-Some.ensures in
+    let q : c.sized-entry.result ≡ at_size e c.args.size = c.sized-entry.ensures in
+    rw (← c.self.view_is, c.set.ensures, q) (kept_less i.entries key e c.args.size slot)
