@@ -1,5 +1,5 @@
 -- The bytes of names and the registers of processes behind the changes of a call.
-use Rattle.std.proofs.Common.{◌≡◌, ◌≢◌, ◌⊎◌, inl, inr, ℕ, zero, suc, ◌+◌, ◌-◌, ◌<◌, ◌==◌, Bool, true, false, cond, if◌then◌else◌, List, [], ◌∷◌, ◌++◌, Option, Some, None, is_some, option_map, ap, refl, sym, ◌∙◌, subst, arith}
+use Rattle.std.proofs.Common.{◌≡◌, ◌≢◌, ◌⊎◌, inl, inr, ℕ, zero, suc, ◌+◌, ◌-◌, ◌<◌, ◌==◌, Bool, true, false, cond, if◌then◌else◌, List, [], ◌∷◌, ◌++◌, length, replicate, Option, Some, None, is_some, option_map, ap, refl, sym, ◌∙◌, subst, arith}
 use Rattle.std.specs.Prelude.{slice_get}
 use Rattle.std.specs.List.{list_any}
 use Rattle.o2_isa.specs.View.{Hold, bound_in}
@@ -8,7 +8,7 @@ use Rattle.o2_isa.specs.Pointers.{put_at_pointer, put_in}
 use Rattle.o2_world.specs.Map.{Map, at_key, get, put}
 use Rattle.o2_world.specs.World.{Held, Process, Segment, World}
 use Rattle.o2_world.specs.Bare.{Bare, bare, bare_names}
-use Rattle.o2_world.specs.Changes.{Change, Makes, Resizes, Locks, Marks, Holds, Drops, Finishes, Reserves, Frees, Names, at_number, at_place, fewer, more, resized, swept, takes, with_all, with_change, with_changes}
+use Rattle.o2_world.specs.Changes.{Change, Makes, Resizes, Locks, Marks, Holds, Drops, Finishes, Reserves, Frees, Names, at_number, at_place, fewer, marked, more, resized, swept, takes, with_all, with_change, with_changes}
 use Rattle.o2_world.specs.Holders.{is_held, process_at}
 use Rattle.o2_world.specs.Slots.{Pointer, put_all}
 use Rattle.o2_world.specs.Views.{bytes_in, segment_bytes, with_bytes}
@@ -39,7 +39,8 @@ abbrev pub changed_bytes : ℕ → Change → (ℕ → List ℕ) → ℕ → Lis
 changed_bytes next (Makes s) f n = if next == n then s.bytes else f n
 changed_bytes next (Resizes name size) f n = if name == n then resized size (f n) else f n
 changed_bytes next (Locks name count) f n = f n
-changed_bytes next (Marks name discarded) f n = f n
+changed_bytes next (Marks name true) f n = if name == n then replicate (length (f n)) 0 else f n
+changed_bytes next (Marks name false) f n = f n
 changed_bytes next (Holds p i h) f n = f n
 changed_bytes next (Drops p i count) f n = f n
 changed_bytes next (Finishes p state) f n = f n
@@ -101,7 +102,8 @@ one_bytes w (Makes s) f h n = go (w.next_name == n)
     go false live = h n live
 one_bytes w (Resizes name size) f h n = placed name (λ (s : Segment). record s { bytes = resized size s.bytes }) (resized size) (λ s. refl) w.names f h n
 one_bytes w (Locks name count) f h n = λ live. placed name (λ (s : Segment). record s { lock = count }) (λ (bs : List ℕ). bs) (λ s. refl) w.names f h n live ∙ same_if (name == n) (f n)
-one_bytes w (Marks name discarded) f h n = λ live. placed name (λ (s : Segment). record s { discarded = discarded }) (λ (bs : List ℕ). bs) (λ s. refl) w.names f h n live ∙ same_if (name == n) (f n)
+one_bytes w (Marks name true) f h n = placed name (marked true) (λ (bs : List ℕ). replicate (length bs) 0) (λ s. refl) w.names f h n
+one_bytes w (Marks name false) f h n = λ live. placed name (marked false) (λ (bs : List ℕ). bs) (λ s. refl) w.names f h n live ∙ same_if (name == n) (f n)
 one_bytes w (Holds p i x) f h n = h n
 one_bytes w (Drops p i count) f h n = h n
 one_bytes w (Finishes p state) f h n = h n
@@ -136,7 +138,8 @@ one_point : (next : ℕ) (c : Change) (f g : ℕ → List ℕ) (n : ℕ) → f n
 one_point next (Makes s) f g n e = ap (λ (x : List ℕ). if next == n then s.bytes else x) e
 one_point next (Resizes name size) f g n e = ap (λ (x : List ℕ). if name == n then resized size x else x) e
 one_point next (Locks name count) f g n e = e
-one_point next (Marks name discarded) f g n e = e
+one_point next (Marks name true) f g n e = ap (λ (x : List ℕ). if name == n then replicate (length x) 0 else x) e
+one_point next (Marks name false) f g n e = e
 one_point next (Holds p i h) f g n e = e
 one_point next (Drops p i count) f g n e = e
 one_point next (Finishes p state) f g n e = e

@@ -19,7 +19,7 @@ abbrev pub some_parts : Shelf → Maps → ImageList → Parts
 some_parts s m images = record { shelf = s; maps = m; images = images; device = 0; block = λ n. []; running = λ n. None }
 
 abbrev pub no_others : Others
-no_others = record { code = λ n. false; discarded = λ n. false; text = λ t. None; processes = 0; avail = 0 }
+no_others = record { code = λ n. false; text = λ t. None; processes = 0; avail = 0 }
 
 pub alloc_givable : (k : Known) (n size flags : ℕ) (x : Roomed) → AnswersRoomed (allocation k n size flags) x → HasWord x
 alloc_givable k n size flags (Done a) h = subst (λ (v : ℕ). v ≤ 65535) (sym h.value) (alloc_word k n size flags)

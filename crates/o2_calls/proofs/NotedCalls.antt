@@ -11,7 +11,7 @@ use Rattle.o2_world.specs.Changes.{Change, Locks, Reserves, drop_lines_of, hold_
 use Rattle.o2_world.specs.HugeRulings.{free_run, huge_allocation, huge_at, huge_shift, is_huge_fault, new_members, run_reserve, segments_of, sizes_of}
 use Rattle.o2_world.specs.Known.{Known, Marks}
 use Rattle.o2_world.specs.Rulings.{Ruling, aliasing_at, aliasing_of, allocation, allocation_at, free_index, grants, indexes, is_alias, is_discardable, is_in_run}
-use Rattle.o2_world.specs.Rulings.{keeps_its_size, locking_of, locking_with, reallocation_of, reallocation_with, refusal, region_by, sizing_of, sizing_with, unlocking_of}
+use Rattle.o2_world.specs.Rulings.{keeps_its_size, locking_of, locking_with, reallocation_of, reallocation_with, refusal, region_by, resizes_with, sizing_of, sizing_with, unlocking_of}
 use Rattle.o2_world.specs.Rulings.{unlocking_with}
 use Rattle.o2_world.specs.SharedRulings.{each_more, holder, index_of, is_share, held_by, naming, naming_at, sharing, sharing_at, sharing_from, sharing_of}
 use Rattle.o2_world.specs.World.{Held}
@@ -121,7 +121,11 @@ module _ (cause : List ℕ) (k : Known) (n : ℕ) where
     where
       at : (o : Option Marks) → Tells cause none_there (reallocation_with h.name size o)
       at None = refused cause none_there 5 five
-      at (Some m) = either cause none_there (keeps_its_size size m) _ _ (refused cause none_there 5 five) (λ b. record { told = λ none. told_nothing cause _ refl refl })
+      at (Some m) = either cause none_there (keeps_its_size size m) _ _ (refused cause none_there 5 five) (λ b. sized m.discarded)
+        where
+          sized : (b : Bool) → Tells cause none_there (grants 0 (resizes_with h.name size b))
+          sized true = record { told = λ none. told_nothing cause _ refl refl }
+          sized false = record { told = λ none. told_nothing cause _ refl refl }
 
   pub size_told : (o : Option Held) → Tells cause none_there (sizing_of k o)
   size_told None = refused cause none_there 5 five
@@ -139,8 +143,12 @@ module _ (cause : List ℕ) (k : Known) (n : ℕ) where
       at None = refused cause none_there 5 five
       at (Some m) = go (is_discardable m)
         where
-          go : (b : Bool) → Tells cause none_there (cond b (grants 0 (Locks h.name (min (m.lock + 1) 255) ∷ [])) (refusal 5))
-          go true = record { told = λ none. told_nothing cause _ refl refl }
+          locked : (b : Bool) → Tells cause none_there (cond b (refusal 157) (grants 0 (Locks h.name (min (m.lock + 1) 255) ∷ [])))
+          locked true = refused cause none_there 157 (λ e. omega (arith, e))
+          locked false = record { told = λ none. told_nothing cause _ refl refl }
+
+          go : (b : Bool) → Tells cause none_there (cond b (cond m.discarded (refusal 157) (grants 0 (Locks h.name (min (m.lock + 1) 255) ∷ []))) (refusal 5))
+          go true = locked m.discarded
           go false = refused cause none_there 5 five
 
   pub unlock_told : (o : Option Held) → Tells cause none_there (unlocking_of k o)

@@ -68,7 +68,7 @@ module _ (k : Known) (n : ℕ) where
 
   locks_with : (name : ℕ) (o : Option Marks) → Refuses (locking_with name o)
   locks_with name None = nothing _ refl
-  locks_with name (Some m) = either (is_discardable m) _ _ (quiet _ refl) (nothing _ refl)
+  locks_with name (Some m) = either (is_discardable m) _ _ (either m.discarded _ _ (nothing _ refl) (quiet _ refl)) (nothing _ refl)
 
   locks : (o : Option Held) → Refuses (locking_of k o)
   locks None = nothing _ refl

@@ -7,7 +7,7 @@ use Rattle.o2_world.specs.Changes.{Change, Makes, Resizes, Locks, Marks as Disca
 use Rattle.o2_world.specs.Known.{Known, Marks}
 use Rattle.o2_world.specs.Rulings.{Ruling, aliasing_at, aliasing_of, allocation, allocation_at, by_load, free_index, freeing_of, full_size, held_as_code, held_by_call}
 use Rattle.o2_world.specs.Rulings.{held_under, in_use, is_alias, is_discardable, is_in_run, is_later, keeps_its_size, locking_of, locking_with, made_segment, members}
-use Rattle.o2_world.specs.Rulings.{reallocation_of, reallocation_with, region_by, sizing_of, unlocking_of, unlocking_with}
+use Rattle.o2_world.specs.Rulings.{reallocation_of, reallocation_with, region_by, resizes_with, sizing_of, unlocking_of, unlocking_with}
 use Rattle.o2_world.specs.SharedNames.{name_by}
 use Rattle.o2_world.specs.SharedRulings.{each_more, getting_at, getting_from, giving_of, holder, index_of, lacks_flag, naming, naming_at, one_more, shared_segment, sharing, sharing_at, sharing_from, sharing_of}
 use Rattle.o2_isa.specs.View.{is_local}
@@ -131,7 +131,11 @@ giving_goes_on cs (GivesRun are) = gifts_go_on cs are
 
 resize_goes_on : (name size : ℕ) (o : Option Marks) → AreNoEnds (reallocation_with name size o).changes
 resize_goes_on name size None = tt
-resize_goes_on name size (Some m) = either AreNoEnds (keeps_its_size size m) _ _ tt (tt, tt)
+resize_goes_on name size (Some m) = either AreNoEnds (keeps_its_size size m) _ _ tt (go m.discarded)
+  where
+    go : (b : Bool) → AreNoEnds (resizes_with name size b)
+    go true = (tt, (tt, (tt, tt)))
+    go false = (tt, tt)
 
 realloc_goes_on : (k : Known) (size : ℕ) (o : Option Held) → AreNoEnds (reallocation_of k size o).changes
 realloc_goes_on k size None = tt
@@ -145,7 +149,7 @@ free_goes_on k n selector c (Some h) =
 
 lock_goes_on : (name : ℕ) (o : Option Marks) → AreNoEnds (locking_with name o).changes
 lock_goes_on name None = tt
-lock_goes_on name (Some m) = either AreNoEnds (is_discardable m) _ _ (tt, tt) tt
+lock_goes_on name (Some m) = either AreNoEnds (is_discardable m) _ _ (either AreNoEnds m.discarded _ _ tt (tt, tt)) tt
 
 locking_goes_on : (k : Known) (o : Option Held) → AreNoEnds (locking_of k o).changes
 locking_goes_on k None = tt
@@ -241,7 +245,11 @@ gives_stay k cs (GivesRun are) = gifts_stay k cs are
 
 resize_stays : (k : Known) (name size : ℕ) (o : Option Marks) → Stays k (reallocation_with name size o).changes
 resize_stays k name size None = refl
-resize_stays k name size (Some m) = either (Stays k) (keeps_its_size size m) _ _ refl refl
+resize_stays k name size (Some m) = either (Stays k) (keeps_its_size size m) _ _ refl (go m.discarded)
+  where
+    go : (b : Bool) → Stays k (resizes_with name size b)
+    go true = refl
+    go false = refl
 
 realloc_stays : (k : Known) (size : ℕ) (o : Option Held) → Stays k (reallocation_of k size o).changes
 realloc_stays k size None = refl
@@ -249,7 +257,7 @@ realloc_stays k size (Some h) = either (Stays k) (is_alias h.cause || is_in_run 
 
 lock_stays : (k : Known) (name : ℕ) (o : Option Marks) → Stays k (locking_with name o).changes
 lock_stays k name None = refl
-lock_stays k name (Some m) = either (Stays k) (is_discardable m) _ _ refl refl
+lock_stays k name (Some m) = either (Stays k) (is_discardable m) _ _ (either (Stays k) m.discarded _ _ refl refl) refl
 
 locking_stays : (k : Known) (o : Option Held) → Stays k (locking_of k o).changes
 locking_stays k None = refl

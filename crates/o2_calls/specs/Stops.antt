@@ -28,6 +28,7 @@ use Rattle.o2_segs.specs.Limits.{KeepsEntries}
 use Rattle.o2_calls.specs.Acts.{MayStop}
 use Rattle.o2_shared.specs.Shares.{StillHolds}
 use Rattle.o2_segs.specs.Made.{IsWithNew}
+use Rattle.o2_segs.specs.Remade.{wants_room}
 
 -- what a process holds under a selector
 abbrev pub held_by : Maps → ℕ → ℕ → Option Held
@@ -37,7 +38,7 @@ held_by m pid selector = if is_local selector then held_at m pid (selector / 8) 
 abbrev pub LacksRoom : SegmentArguments → Shelf → Maps → (pid : ℕ) → (keep : List SegId) → Type 0
 LacksRoom (Alloc size flags) t m pid keep = IsWithNew t (full_size size) flags (λ u id. u.places.size < all_wanted u id.key keep)
 LacksRoom (Realloc size selector) t m pid keep =
-    IfSome (held_by m pid selector) (λ h. (stays t h.id.key keep ≡ true) × (t.places.size < all_wanted_at t h.id.key keep (full_size size)))
+    IfSome (held_by m pid selector) (λ h. (wants_room t h.id.key keep ≡ true) × (t.places.size < all_wanted_at t h.id.key keep (full_size size)))
 LacksRoom (Free selector) t m pid keep = ⊥
 LacksRoom (Size selector) t m pid keep = ⊥
 LacksRoom (Lock selector) t m pid keep = IfSome (held_by m pid selector) (λ h. t.places.size < all_wanted t h.id.key keep)

@@ -1,9 +1,10 @@
 -- What goes on to hold where nothing changes, and behind one change and another.
-use Rattle.std.proofs.Common.{◌≡◌, ◌∙◌, refl, subst, sym}
+use Rattle.std.proofs.Common.{◌≡◌, ℕ, ◌∙◌, arith, refl, subst, sym}
 use Rattle.o2_image.specs.ImageList.{ImageList}
 use Rattle.o2_regions.specs.Maps.{Maps}
 use Rattle.o2_store.specs.Pictures.{picture}
 use Rattle.o2_store.specs.Shelf.{AreClean, Shelf}
+use Rattle.o2_store.specs.Frames.{IsBacked}
 use Rattle.o2_changes.specs.Frames.{KeepsOrder, KeepsOrderFor}
 use Rattle.o2_changes.specs.Order.{IsGuarded, IsInOrder}
 
@@ -82,3 +83,10 @@ for_then images s t u l m n a b = for_trans images s t u l m n a (for_order imag
 
 pub then_for : (images : ImageList) (s t u : Shelf) (l m n : Maps) → KeepsOrder s l t m → AreClean s (picture images) → KeepsOrderFor images t m u n → KeepsOrderFor images s l u n
 then_for images s t u l m n a clean b = for_trans images s t u l m n (for_order images s t l m a clean) b
+
+-- what is asked of the device holds behind a change that keeps the map of blocks
+pub backed_then : (s t : Shelf) (m n : Maps) (images : ImageList) (blocks : ℕ) → KeepsOrder s m t n → IsBacked s images blocks → IsBacked t images blocks
+backed_then s t m n images blocks k b = record {
+  clean = k.clean (picture images) b.clean;
+  device = (let same = k.map in let fits = b.device in omega (arith, same, fits));
+}

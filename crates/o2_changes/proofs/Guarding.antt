@@ -32,11 +32,11 @@ use Rattle.o2_changes.proofs.SizesMatch.{each, sized_aged}
 use Rattle.o2_changes.proofs.Taking.{takes_some}
 
 -- where nobody holds more and no segment turns clean
-still_guarded : (s t : Shelf) (m : Maps) → ((q j : ℕ) (h : Held) → held_at m q j ≡ Some h → (entry t h.id.key).attr.clean ≡ (entry s h.id.key).attr.clean) → AreGuarded s m → AreGuarded t m
+pub still_guarded : (s t : Shelf) (m : Maps) → ((q j : ℕ) (h : Held) → held_at m q j ≡ Some h → (entry t h.id.key).attr.clean ≡ (entry s h.id.key).attr.clean) → AreGuarded s m → AreGuarded t m
 still_guarded s t m same was q j h e writable = same q j h e ∙ was q j h e writable
 
 -- the tables behind a settling
-told_guarded : (s : Shelf) (m n : Maps) → OnlyTables m n → AreGuarded s m → AreGuarded s n
+pub told_guarded : (s : Shelf) (m n : Maps) → OnlyTables m n → AreGuarded s m → AreGuarded s n
 told_guarded s m n only was q j h e writable =
     was q j h (sym (held_same m n q j (ap (λ (x : Maps). x.held) only.rest)) ∙ e) (subst (λ (r : ℕ). is_writable r ≡ true) (only.rights q j) writable)
 

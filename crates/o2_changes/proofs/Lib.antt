@@ -20,3 +20,4 @@ pub mod Losing
 pub mod Guarding
 pub mod KeepingHolds
 pub mod FreeingRuns
+pub mod Marking

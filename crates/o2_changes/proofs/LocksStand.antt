@@ -97,6 +97,7 @@ module _ (p : Parts) (w : World) (t : Shelf) (id : SegId) (lock : ℕ) (live : I
         flags = is.flags ∙ ap (λ (x : Entry). x.attr.flags) (sym same);
         lock = is.lock ∙ ap (λ (x : Entry). x.attr.lock) (sym same);
         shared = is.shared ∙ ap (λ (x : Entry). x.attr.shared) (sym same);
+        discarded = is.discarded ∙ ap (λ (x : Entry). x.attr.gone) (sym same);
       }
 
   named_own : (g : Option Segment) → IsNamed p (Some id.key) g → IsNamed (record p { shelf = t }) (Some id.key) (option_map (λ (s : Segment). record s { lock = lock }) g)
@@ -110,6 +111,7 @@ module _ (p : Parts) (w : World) (t : Shelf) (id : SegId) (lock : ℕ) (live : I
         flags = is.flags ∙ ap (λ (x : Entry). x.attr.flags) (sym same);
         lock = ap (λ (x : Entry). x.attr.lock) (sym same);
         shared = is.shared ∙ ap (λ (x : Entry). x.attr.shared) (sym same);
+        discarded = is.discarded ∙ ap (λ (x : Entry). x.attr.gone) (sym same);
       }
 
   segments_now : (q : ℕ) → IsNamed (record p { shelf = t }) (key_of t q) (get (at_key id.age (λ (s : Segment). record s { lock = lock }) w.names) q)

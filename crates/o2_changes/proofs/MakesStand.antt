@@ -131,6 +131,7 @@ module _ (p : Parts) (w : World) (t : Shelf) (id : SegId) (e : Entry) (sg : Segm
         flags = is.flags ∙ ap (λ (x : Entry). x.attr.flags) (sym same);
         lock = is.lock ∙ ap (λ (x : Entry). x.attr.lock) (sym same);
         shared = is.shared ∙ ap (λ (x : Entry). x.attr.shared) (sym same);
+        discarded = is.discarded ∙ ap (λ (x : Entry). x.attr.gone) (sym same);
       }
 
   segments_now : IsSegment (record p { shelf = t }) id.key sg → (q : ℕ) → IsNamed (record p { shelf = t }) (key_of t q) (get (put w.next_name (Some sg) w.names) q)

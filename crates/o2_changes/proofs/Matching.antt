@@ -100,7 +100,7 @@ move_matches s t m n images told before after keeps only clean order all p w es 
     (subst (λ (i : ImageList). KeepsAll told (picture i) p.shelf p.block t after) (sym ei) (subst (λ (x : Shelf). KeepsAll told (picture images) x p.block t after) (sym es) (subst (λ (b : ℕ → List ℕ). KeepsAll told (picture images) s b t after) (sym eb) keeps)))
     (subst (λ (x : Maps). OnlyTables x n) (sym em) only) q (subst (λ (i : ImageList). AreClean t (picture i)) (sym ei) clean) order (all ∙ ap (λ (x : Shelf). all_of x.swap) (sym es))
 
-made_is : (p : Parts) (t : Shelf) (key : ℕ) (e : Entry) (size flags : ℕ) (shared : Bool) → slot_at t.entries key ≡ Some e → e.size ≡ size → e.attr ≡ record { flags = flags; lock = 0; clean = false; shared = shared }
+made_is : (p : Parts) (t : Shelf) (key : ℕ) (e : Entry) (size flags : ℕ) (shared : Bool) → slot_at t.entries key ≡ Some e → e.size ≡ size → e.attr ≡ record { flags = flags; lock = 0; clean = false; shared = shared; gone = false }
     → ((j : ℕ) → byte_at t (picture p.images) p.block key j ≡ 0) → IsSegment (record p { shelf = t }) key (new_segment size flags shared)
 made_is p t key e size flags shared slot sized attr zeros =
     let same : entry t key ≡ e = ap entry_or slot in
@@ -111,18 +111,19 @@ made_is p t key e size flags shared slot sized attr zeros =
       flags = sym (ap (λ (x : Entry). x.attr.flags) same ∙ ap (λ (a : Attr). a.flags) attr);
       lock = sym (ap (λ (x : Entry). x.attr.lock) same ∙ ap (λ (a : Attr). a.lock) attr);
       shared = sym (ap (λ (x : Entry). x.attr.shared) same ∙ ap (λ (a : Attr). a.shared) attr);
+      discarded = sym (ap (λ (x : Entry). x.attr.gone) same ∙ ap (λ (a : Attr). a.gone) attr);
     }
 
-make_matches : (s t : Shelf) (m : Maps) (id : SegId) (size flags : ℕ) (shared : Bool) → IsShelf s → Adds s t id (record { age = s.made; size = size; kept = 0; image = None; attr = record { flags = flags; lock = 0; clean = false; shared = shared } }) → IsInOrder t m
+make_matches : (s t : Shelf) (m : Maps) (id : SegId) (size flags : ℕ) (shared : Bool) → IsShelf s → Adds s t id (record { age = s.made; size = size; kept = 0; image = None; attr = record { flags = flags; lock = 0; clean = false; shared = shared; gone = false } }) → IsInOrder t m
     → ((pic : Pictures) (block : ℕ → List ℕ) (j : ℕ) → byte_at t pic block id.key j ≡ 0) → ((pic : Pictures) (block : ℕ → List ℕ) (k j : ℕ) → k ≢ id.key → byte_at t pic block k j ≡ byte_at s pic block k j)
     → (p : Parts) (w : World) → p.shelf ≡ s → p.maps ≡ m → Matches p w → Matches (record p { shelf = t }) (with_change w (Makes (new_segment size flags shared)))
 make_matches s t m id size flags shared shelf adds order zeros others p w es em q =
-    let e : Entry = record { age = s.made; size = size; kept = 0; image = None; attr = record { flags = flags; lock = 0; clean = false; shared = shared } } in
+    let e : Entry = record { age = s.made; size = size; kept = 0; image = None; attr = record { flags = flags; lock = 0; clean = false; shared = shared; gone = false } } in
     makes_match p w t id e (new_segment size flags shared) (subst IsShelf (sym es) shelf) (subst (λ (x : Shelf). Adds x t id e) (sym es) adds) (ap (λ (x : Shelf). x.made) (sym es)) q
     (λ block k j n. others (picture p.images) block k j n ∙ ap (λ (x : Shelf). byte_at x (picture p.images) block k j) (sym es)) refl (subst (IsInOrder t) (sym em) order)
     (made_is p t id.key e size flags shared (ap (λ (x : Shelf). slot_at x.entries id.key) adds.shelf ∙ slot-set_same s.entries id.key (Some e) adds.within) refl refl (zeros (picture p.images) p.block))
 
-pub some_made : (s t : Shelf) (m : Maps) (o : Option SegId) (size flags : ℕ) (shared : Bool) → IsShelf s → IfSome o (λ id. Adds s t id (record { age = s.made; size = size; kept = 0; image = None; attr = record { flags = flags; lock = 0; clean = false; shared = shared } }))
+pub some_made : (s t : Shelf) (m : Maps) (o : Option SegId) (size flags : ℕ) (shared : Bool) → IsShelf s → IfSome o (λ id. Adds s t id (record { age = s.made; size = size; kept = 0; image = None; attr = record { flags = flags; lock = 0; clean = false; shared = shared; gone = false } }))
     → IsInOrder t m → IfSome o (λ id. (pic : Pictures) (block : ℕ → List ℕ) (j : ℕ) → byte_at t pic block id.key j ≡ 0)
     → IfSome o (λ id. (pic : Pictures) (block : ℕ → List ℕ) (k j : ℕ) → k ≢ id.key → byte_at t pic block k j ≡ byte_at s pic block k j)
     → IfSome o (λ id. MatchesMake s t m (new_segment size flags shared))

@@ -40,6 +40,7 @@ module _ (p : Parts) (w : World) (t : Shelf) (m : Maps) (after : ℕ → List �
         flags = is.flags ∙ ap (λ (a : Attr). a.flags) (sym e.attr);
         lock = is.lock ∙ ap (λ (a : Attr). a.lock) (sym e.attr);
         shared = is.shared ∙ ap (λ (a : Attr). a.shared) (sym e.attr);
+        discarded = is.discarded ∙ ap (λ (a : Attr). a.gone) (sym e.attr);
       }
 
   keys : (q : ℕ) → key_of t q ≡ key_of p.shelf q

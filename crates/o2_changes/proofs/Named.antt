@@ -18,6 +18,7 @@ named_same p t n k g e b is = record {
   flags = is.flags ∙ ap (λ (x : Entry). x.attr.flags) (sym e);
   lock = is.lock ∙ ap (λ (x : Entry). x.attr.lock) (sym e);
   shared = is.shared ∙ ap (λ (x : Entry). x.attr.shared) (sym e);
+  discarded = is.discarded ∙ ap (λ (x : Entry). x.attr.gone) (sym e);
 }
 
 -- what is known of a name, where both sides say the same of its number

@@ -33,7 +33,7 @@ use Rattle.o2_changes.specs.Order.{IsInOrder}
 use Rattle.o2_changes.proofs.Keys.{live_key, other_key, same_key}
 
 -- a list of another length
-resized_long : (size : ℕ) (bytes : List ℕ) → length (resized size bytes) ≡ size
+pub resized_long : (size : ℕ) (bytes : List ℕ) → length (resized size bytes) ≡ size
 resized_long size bytes =
     let a = length-append (take size bytes) (replicate (size - length bytes) 0) in
     let b : length {A = ℕ} (replicate (size - length bytes) 0) ≡ size - length bytes = length-replicate (size - length bytes) 0 in
@@ -98,6 +98,7 @@ module _ (p : Parts) (w : World) (t : Shelf) (m : Maps) (after : ℕ → List �
         flags = is.flags ∙ ap (λ (a : Attr). a.flags) (sym c.attr);
         lock = is.lock ∙ ap (λ (a : Attr). a.lock) (sym c.attr);
         shared = is.shared ∙ ap (λ (a : Attr). a.shared) (sym c.attr);
+        discarded = is.discarded ∙ ap (λ (a : Attr). a.gone) (sym c.attr);
       }
 
   own_bytes : (s : Segment) → IsSegment p id.key s → (j : ℕ) → j < size → get_or (resized size s.bytes) j 0 ≡ byte_in (moved p t m after) id.key j
@@ -116,6 +117,7 @@ module _ (p : Parts) (w : World) (t : Shelf) (m : Maps) (after : ℕ → List �
     flags = is.flags ∙ ap (λ (a : Attr). a.flags) (sym r.here.attr);
     lock = is.lock ∙ ap (λ (a : Attr). a.lock) (sym r.here.attr);
     shared = is.shared ∙ ap (λ (a : Attr). a.shared) (sym r.here.attr);
+    discarded = is.discarded ∙ ap (λ (a : Attr). a.gone) (sym r.here.attr);
   }
 
   segments_now : (q : ℕ) → IsNamed (moved p t m after) (key_of t q) (get (at_key id.age (λ (s : Segment). record s { bytes = resized size s.bytes }) w.names) q)

@@ -11,7 +11,7 @@ use Rattle.o2_world.specs.Map.{get}
 use Rattle.o2_world.specs.World.{Held, Process, Segment, World}
 use Rattle.o2_world.specs.Holders.{is_held, kept, process_at}
 use Rattle.o2_world.specs.Known.{reserves}
-use Rattle.o2_world.specs.Changes.{Drops, Holds, Locks, Makes, Resizes, used, with_all, with_change}
+use Rattle.o2_world.specs.Changes.{Drops, Holds, Locks, Makes, Marks, Resizes, used, with_all, with_change}
 use Rattle.o2_stands.specs.Moves.{moved}
 use Rattle.o2_stands.specs.Parts.{Parts, cause_of}
 use Rattle.o2_stands.specs.Stands.{Matches, number_of}
@@ -57,6 +57,11 @@ pub record MatchesLock (s t : Shelf) (m : Maps) (id : SegId) (lock : ℕ) : Type
   pub world : (p : Parts) (w : World) → p.shelf ≡ s → p.maps ≡ m → Matches p w
       → Matches (record p { shelf = t }) (with_change w (Locks id.age lock))
 
+-- store and tables match a world in which a segment is discarded, or is so no more
+pub record MatchesMark (s t : Shelf) (old new : Maps) (id : SegId) (discarded : Bool) : Type 0 where
+  pub world : (p : Parts) (w : World) → p.shelf ≡ s → p.maps ≡ old → Matches p w
+      → Matches (record p { shelf = t; maps = new }) (with_change w (Marks id.age discarded))
+
 -- store and tables match a world where segments come, go and move, where the device tells
 pub record MatchesMove (s t : Shelf) (old new : Maps) (images : ImageList) (told : Bool) (before after : ℕ → List ℕ) : Type 0 where
   pub world : (p : Parts) (w : World) → p.shelf ≡ s → p.maps ≡ old → p.images ≡ images → p.block ≡ before → IsTrue told
@@ -74,6 +79,11 @@ pub record MatchesMake (s t : Shelf) (m : Maps) (segment : Segment) : Type 0 whe
 pub record MatchesSize (s t : Shelf) (old new : Maps) (images : ImageList) (told : Bool) (before after : ℕ → List ℕ) (id : SegId) (size : ℕ) : Type 0 where
   pub world : (p : Parts) (w : World) → p.shelf ≡ s → p.maps ≡ old → p.images ≡ images → p.block ≡ before → IsTrue told
       → Matches p w → Matches (moved p t new after) (with_change w (Resizes id.age size))
+
+-- store and tables match a world in which a segment out of memory has another size, whatever any device tells
+pub record MatchesOutSize (s t : Shelf) (old new : Maps) (id : SegId) (size : ℕ) : Type 0 where
+  pub world : (p : Parts) (w : World) → p.shelf ≡ s → p.maps ≡ old → Matches p w
+      → Matches (record p { shelf = t; maps = new }) (with_change w (Resizes id.age size))
 
 -- the store matches a world again without the segment that was made last, as if none had been made
 pub record MatchesUnmake (s t : Shelf) (m : Maps) (id : SegId) : Type 0 where

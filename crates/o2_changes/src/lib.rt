@@ -11,4 +11,4 @@ pub use dropping::{drop_hold, free_index, free_run, is_shared_held, is_unheld, l
 pub use holding::{hold_more, hold_new, region_of};
 pub use laws::a_tidy_world_may_lose_a_hold;
 pub use members::lose;
-pub use segments::{bring_in, make, resize, set_lock, unmake};
+pub use segments::{bring_in, discard, make, resize, resize_out, revive, set_lock, unmake};

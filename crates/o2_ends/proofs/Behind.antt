@@ -339,6 +339,7 @@ module _ (p : Parts) (s : Shelf) (m : Maps) (t : Shelf) (n : Maps) (pid : ℕ) (
         flags = is.flags ∙ ap (λ (e : Entry). e.attr.flags) (sym same);
         lock = is.lock ∙ ap (λ (e : Entry). e.attr.lock) (sym same);
         shared = is.shared ∙ ap (λ (e : Entry). e.attr.shared) (sym same);
+        discarded = is.discarded ∙ ap (λ (e : Entry). e.attr.gone) (sym same);
       }
 
   abbrev behind : Parts

@@ -1,12 +1,13 @@
 -- What the rows of locks come to.
-use Rattle.std.proofs.Common.{◌≡◌, ◌≢◌, ℕ, ◌+◌, ◌-◌, ◌≤◌, ◌/◌, ◌<◌, arith, min, Some, None, true, false, cond, eqb, nat_lt, option_map, List, [], ◌∷◌, refl, sym, ap, ◌∙◌, subst}
+use Rattle.std.proofs.Common.{◌≡◌, ◌≢◌, ℕ, ◌+◌, ◌-◌, ◌≤◌, ◌/◌, ◌<◌, arith, min, Some, None, Bool, true, false, cond, eqb, nat_lt, option_map, List, [], ◌∷◌, refl, sym, ap, ◌∙◌, subst}
 use Rattle.std.proofs.lemmas.Bool.{cond-true, cond-false, ne_eqb, eq-eqb}
 use Rattle.o2_desc.specs.Bits.{has_bit}
 use Rattle.o2_entries.specs.declared.Attr.{Attr}
 use Rattle.o2_regions.specs.declared.held.Held.{Held as HeldThere}
 use Rattle.o2_regions.specs.Maps.{Maps}
 use Rattle.o2_segbus.specs.Seen.{AreNamed}
-use Rattle.o2_store.specs.Shelf.{Shelf, entry}
+use Rattle.o2_store.specs.Shelf.{IsShelf, Shelf, entry}
+use Rattle.o2_segs.proofs.Discarded.{gone_is}
 use Rattle.o2_place.specs.declared.seg_id.SegId.{SegId}
 use Rattle.o2_stands.specs.Stands.{Matches}
 use Rattle.o2_world.specs.World.{World}
@@ -38,7 +39,7 @@ lock_some p o pid s h named e =
     ∙ ap (locking_with h.id.age) (marks_are p o named pid (s / 8) h (under_held p.maps pid s h e).1)
 
 pub marked : (p : Parts) (o : Others) (s : Shelf) (n k : ℕ) → p.shelf ≡ s → IsMarked (entry s k).attr (marks_under p o n k)
-marked p o s n k es = subst (λ (x : Shelf). IsMarked (entry x k).attr (marks_under p o n k)) es (record { flags = refl; lock = refl })
+marked p o s n k es = subst (λ (x : Shelf). IsMarked (entry x k).attr (marks_under p o n k)) es (record { flags = refl; lock = refl; discarded = refl })
 
 -- by flags and lock count
 pub unlock_plain : (name : ℕ) (a : Attr) (m : Marks) → IsMarked a m → has_bit a.flags 2 ≡ false → unlocking_with name (Some m) ≡ refusal 5
@@ -57,11 +58,18 @@ unlock_done name a m is e n =
     ∙ ap (λ (l : ℕ). grants 0 (Locks name (cond (nat_lt l 255) (l - 1) l) ∷ [])) is.lock
 
 pub lock_plain : (name : ℕ) (a : Attr) (m : Marks) → IsMarked a m → has_bit a.flags 2 ≡ false → locking_with name (Some m) ≡ refusal 5
-lock_plain name a m is e = cond-false (has_bit m.flags 2) (grants 0 (Locks name (min (m.lock + 1) 255) ∷ [])) (refusal 5) (ap (λ (f : ℕ). has_bit f 2) is.flags ∙ e)
+lock_plain name a m is e =
+    cond-false (has_bit m.flags 2) (cond m.discarded (refusal 157) (grants 0 (Locks name (min (m.lock + 1) 255) ∷ []))) (refusal 5) (ap (λ (f : ℕ). has_bit f 2) is.flags ∙ e)
 
-pub lock_done : (name : ℕ) (a : Attr) (m : Marks) → IsMarked a m → has_bit a.flags 2 ≡ true → locking_with name (Some m) ≡ grants 0 (Locks name (min (a.lock + 1) 255) ∷ [])
-lock_done name a m is e =
-    cond-true (has_bit m.flags 2) (grants 0 (Locks name (min (m.lock + 1) 255) ∷ [])) (refusal 5) (ap (λ (f : ℕ). has_bit f 2) is.flags ∙ e)
+pub lock_gone : (name : ℕ) (a : Attr) (m : Marks) → IsMarked a m → has_bit a.flags 2 ≡ true → a.gone ≡ true → locking_with name (Some m) ≡ refusal 157
+lock_gone name a m is e gone =
+    cond-true (has_bit m.flags 2) (cond m.discarded (refusal 157) (grants 0 (Locks name (min (m.lock + 1) 255) ∷ []))) (refusal 5) (ap (λ (f : ℕ). has_bit f 2) is.flags ∙ e)
+    ∙ cond-true m.discarded (refusal 157) (grants 0 (Locks name (min (m.lock + 1) 255) ∷ [])) (is.discarded ∙ gone)
+
+pub lock_done : (name : ℕ) (a : Attr) (m : Marks) → IsMarked a m → has_bit a.flags 2 ≡ true → a.gone ≡ false → locking_with name (Some m) ≡ grants 0 (Locks name (min (a.lock + 1) 255) ∷ [])
+lock_done name a m is e whole =
+    cond-true (has_bit m.flags 2) (cond m.discarded (refusal 157) (grants 0 (Locks name (min (m.lock + 1) 255) ∷ []))) (refusal 5) (ap (λ (f : ℕ). has_bit f 2) is.flags ∙ e)
+    ∙ cond-false m.discarded (refusal 157) (grants 0 (Locks name (min (m.lock + 1) 255) ∷ [])) (is.discarded ∙ whole)
     ∙ ap (λ (l : ℕ). grants 0 (Locks name (min (l + 1) 255) ∷ [])) is.lock
 
 pub none_less : (n : ℕ) → n ≤ 0 → n ≡ 0
@@ -83,3 +91,11 @@ pub locked_matches : (p : Parts) (w : World) (t : Shelf) (n : Maps) (block : ℕ
 unfolding with_changes
 locked_matches p w t n block id lock m r e same q =
     subst (λ (x : Ruling). Matches (moved p t n block) (with_all w x.changes)) (sym e) (subst (λ (x : ℕ). Matches (moved p t n block) (with_change w (Locks id.age x))) same q)
+
+-- what is locked isn't discarded
+pub locked_whole : (s : Shelf) (key : ℕ) → IsShelf s → 0 < (entry s key).attr.lock → (entry s key).attr.gone ≡ false
+locked_whole s key h some = go (entry s key).attr.gone refl
+  where
+    go : (b : Bool) → (entry s key).attr.gone ≡ b → b ≡ false
+    go false e = refl
+    go true e = absurd (let none = (gone_is s key h e).kind.unlocked in omega (arith, some, none))

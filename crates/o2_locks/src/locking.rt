@@ -32,12 +32,15 @@ use o2_image::Images;
 use o2_outer::SwapDevice;
 use o2_place::SegId;
 use o2_regions::{Regions, Roomed};
-use o2_segs::{ACCESS_DENIED, done, held_under, refusal, stop_of};
+use o2_segs::{ACCESS_DENIED, done, held_under, is_discarded, refusal, stop_of};
 use o2_store::Store;
+
+/// ERROR_DISCARDED: the segment was discarded, and isn't made anew yet.
+const DISCARDED: u16 = 157;
 
 /// DosLockSeg(sel): a discardable segment that the caller holds is locked once more, at most 255 times. Where it isn't locked
 /// yet, it comes into memory first, together with the segments of `keep` and those that are locked, and only then a stop may come.
-/// 5 where no such segment is held. At a stop no segment, no hold and no lock has changed.
+/// 5 where no such segment is held, 157 where it was discarded. At a stop no segment, no hold and no lock has changed.
 #[tactic(auto, using(o2_changes::proofs::KeepingHolds::holds_refl))]
 pub fn lock_seg<S: SwapDevice>(
     store: &mut Store,
@@ -132,6 +135,9 @@ fn lock<S: SwapDevice>(
         Some(attr) => {
             if !is_discardable(attr) {
                 return Roomed::Done(refusal(ACCESS_DENIED));
+            }
+            if is_discarded(store, id) {
+                return Roomed::Done(refusal(DISCARDED));
             }
             if 0 < attr.lock {
                 set_lock(store, regions, id, attr.lock.saturating_add(1));

@@ -39,6 +39,7 @@ shared_is s w place first last sound is = record {
   kept = λ k low high. record {
     one = names_one (after s w k) place (along {P = IsSound} s (step_sound s) w sound k) is.high (is.there k low (omega (arith, high)));
     lives = ap is_some (is.there (suc k) (omega (arith, low)) (omega (arith, high))).lives;
+    word = is.word k low high;
     only = is.only k low high;
   };
 }

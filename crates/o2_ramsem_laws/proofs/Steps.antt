@@ -13,8 +13,8 @@ use Rattle.o2_world.specs.Known.{held_at}
 use Rattle.o2_world.specs.SemRulings.{SemRuling}
 use Rattle.o2_world.specs.CallParts.{Effect}
 use Rattle.o2_world.specs.Effect.{effect}
-use Rattle.o2_world.specs.Run.{acted, before, changed, chosen_step, is_over, next_dispatch, step}
-use Rattle.o2_world.proofs.Budget.{step_runs}
+use Rattle.o2_world.specs.Run.{acted, before, changed, chosen_step, is_over, next_dispatch, ready, step}
+use Rattle.o2_world.proofs.Words.{ready_stays, step_runs}
 use Rattle.o2_world.proofs.MapLemmas.{if_yes}
 use Rattle.o2_world.proofs.Numbers.{number_some}
 use Rattle.o2_world.proofs.RunReach.{lines_are}
@@ -98,13 +98,18 @@ acted_untold s w v d p place is unheld (TellsOne c call) before_it = absurd (non
 
 -- A step.
 
-step_is : (s : Setting) (w : World) (p : Process) → is_over w ≡ false → process_at w.processes (next_dispatch s w).current ≡ Some p
-    → step s w ≡ changed w (next_dispatch s w) p (effect (before s w (next_dispatch s w).current p))
-step_is s w p runs at = step_runs s w runs ∙ ap (acted s w (next_dispatch s w)) at
+-- what a selector names, by the processes alone
+abbrev pub IsOne : List Process → Place → Type 0
+IsOne ps place = (q : ℕ) (h : Held) → held_at ps q (place.selector / 8) ≡ Some h → h.name ≡ place.name
+
+-- behind the words that come before it
+step_is : (s : Setting) (w : World) (p : Process) → is_over w ≡ false → (let v = ready w in let d = next_dispatch s v in process_at v.processes d.current ≡ Some p
+    → step s w ≡ changed v d p (effect (before s v d.current p)))
+step_is s w p runs at = let v = ready w in step_runs s w runs ∙ ap (acted s v (next_dispatch s v)) at
 
 step_over : (s : Setting) (w : World) → is_over w ≡ true → step s w ≡ w
 unfolding step
-step_over s w over = if_yes (is_over w) w (chosen_step s w) over
+step_over s w over = if_yes (is_over w) w (chosen_step s (ready w)) over
 
 pub step_played : (s : Setting) (w : World) (place : Place) → IsKept s w place → IsPlayed (number_at w place) (told place w.lines)
     → IsPlayed (number_at (step s w) place) (told place (step s w).lines)
@@ -113,11 +118,15 @@ step_played s w place kept played = go (is_over w) refl
     go : (t : Bool) → is_over w ≡ t → IsPlayed (number_at (step s w) place) (told place (step s w).lines)
     go true over = subst (λ (v : World). IsPlayed (number_at v place) (told place v.lines)) (sym (step_over s w over)) played
     go false runs =
-        let here = next_process s w runs in
-        let d : Dispatch = next_dispatch s w in
-        acted_played s w (step s w) d here.0 place (step_is s w here.0 runs here.1) kept.lives kept.only
-        (effect_tells place (before s w d.current here.0) (not_zero d.current (number_some w.processes d.current here.0 here.1)) (names_own s w d.current here.0 place here.1 kept.one))
-        played
+        let v = ready w in
+        let behind = ready_stays w in
+        let here = next_process s v (behind.over ∙ runs) in
+        let d : Dispatch = next_dispatch s v in
+        let lines = ap (told place) behind.lines in
+        acted_played s v (step s w) d here.0 place (step_is s w here.0 runs here.1) kept.lives (λ same. kept.only (same ∙ lines) ∙ sym kept.word)
+        (effect_tells place (before s v d.current here.0) (not_zero d.current (number_some v.processes d.current here.0 here.1))
+        (names_own s v d.current here.0 place here.1 (subst (λ (ps : List Process). IsOne ps place) (sym behind.processes) kept.one)))
+        (played_as (number_at v place) (number_at w place) (told place v.lines) (told place w.lines) kept.word lines played)
 
 -- where nobody holds the selector, no line of a call on it comes
 pub step_untold : (s : Setting) (w : World) (place : Place) → IsUnheld w place → told place w.lines ≡ [] → told place (step s w).lines ≡ []
@@ -126,10 +135,12 @@ step_untold s w place none before_it = go (is_over w) refl
     go : (t : Bool) → is_over w ≡ t → told place (step s w).lines ≡ []
     go true over = ap (λ (v : World). told place v.lines) (step_over s w over) ∙ before_it
     go false runs =
-        let here = next_process s w runs in
-        let d : Dispatch = next_dispatch s w in
-        let unheld = none_own s w d.current here.0 place here.1 none in
-        acted_untold s w (step s w) d here.0 place (step_is s w here.0 runs here.1) unheld
-        (effect_tells place (before s w d.current here.0) (not_zero d.current (number_some w.processes d.current here.0 here.1))
+        let v = ready w in
+        let behind = ready_stays w in
+        let here = next_process s v (behind.over ∙ runs) in
+        let d : Dispatch = next_dispatch s v in
+        let unheld = none_own s v d.current here.0 place here.1 (subst (λ (ps : List Process). (q : ℕ) → held_at ps q (place.selector / 8) ≡ None) (sym behind.processes) none) in
+        acted_untold s v (step s w) d here.0 place (step_is s w here.0 runs here.1) unheld
+        (effect_tells place (before s v d.current here.0) (not_zero d.current (number_some v.processes d.current here.0 here.1))
         (λ h e. absurd (none_some _ unheld (ap is_some e))))
-        before_it
+        (ap (told place) behind.lines ∙ before_it)

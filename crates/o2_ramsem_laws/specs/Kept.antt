@@ -5,7 +5,7 @@ use Rattle.o2_world.specs.World.{World, Setting, Held}
 use Rattle.o2_world.specs.Views.{bytes_in}
 use Rattle.o2_world.specs.Known.{held_at}
 use Rattle.o2_world.specs.SemRulings.{number_in}
-use Rattle.o2_world.specs.Run.{after, step}
+use Rattle.o2_world.specs.Run.{after, ready, step}
 use Rattle.o2_ramsem_laws.specs.Told.{Place, told}
 
 -- the number that four bytes of a segment say
@@ -24,10 +24,11 @@ abbrev pub NamesOne : World → Place → Type 0
 NamesOne w place = (q : ℕ) (h : Held) → held_at w.processes q (place.selector / 8) ≡ Some h → h.name ≡ place.name
 
 -- of the step from this world: the selector names one segment, that lives behind the step too, and the number stays where the step
--- puts no line of a call on the semaphore
+-- puts no line of a call on the semaphore, and at a word `discard` that comes before the step
 pub record IsKept (s : Setting) (w : World) (place : Place) : Type 0 where
   pub one : NamesOne w place
   pub lives : is_some (get (step s w).names place.name) ≡ true
+  pub word : number_at (ready w) place ≡ number_at w place
   pub only : told place (step s w).lines ≡ told place w.lines → number_at (step s w) place ≡ number_at w place
 
 -- From `first` steps behind a world on, up to `last` steps behind it, a place is that of a semaphore: there its selector is first held,

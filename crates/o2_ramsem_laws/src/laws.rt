@@ -4,7 +4,7 @@ ghost use Rattle.o2_conf.specs.declared.script.Word.{Word};
 ghost use Rattle.o2_world.specs.World.{World, Setting, Process};
 ghost use Rattle.o2_world.specs.Holders.{process_at};
 ghost use Rattle.o2_world.specs.Effect.{effect};
-ghost use Rattle.o2_world.specs.Run.{after, before, next_dispatch, report as report_text};
+ghost use Rattle.o2_world.specs.Run.{after, before, next_dispatch, ready, report as report_text};
 ghost use Rattle.o2_world.specs.Starts.{Start, opening_of};
 ghost use Rattle.o2_world.specs.SemRulings.{Becomes, Refuses, SemRuling};
 ghost use Rattle.o2_world.specs.SemsWorked.{clears, forever, requests, sets, waits_for};
@@ -41,7 +41,7 @@ pub fn numbers_are_the_owners_that_lines_tell()
 
 /// A place behind a shared selector is such a place (`IsSemaphore`) for as long as somebody holds its segment, which is a shared one, under
 /// the selector: in a run from a sound world that selector names this one segment for all who hold it. What is left to suppose is that
-/// the four bytes are zero when it is first held, and that only calls on the semaphore change them.
+/// the four bytes are zero when it is first held, and that only calls on the semaphore change them, no word `discard` either.
 pub fn shared_selectors_name_one_segment()
     ensures { (s : Setting) (w : World) (place : Place) (first last : ℕ) → IsSound w
         → IsShared s w place first last → IsSemaphore s w place first last }
@@ -69,12 +69,12 @@ pub fn told_requests_are_cleared_between()
         → HasClear (calls_in ys) }
 {}
 
-/// A step that is a DosSemRequest or a DosSemWait with a good pointer to a semaphore, and with a timeout of 0 or 0xFFFF_FFFF, answers 0
+/// A step, behind the words that come before it, that is a DosSemRequest or a DosSemWait with a good pointer to a semaphore, and with a timeout of 0 or 0xFFFF_FFFF, answers 0
 /// exactly where by the lines so far nobody owns the semaphore. Else it answers 121 at timeout 0, and waits at the other.
 pub fn who_wants_a_semaphore_gets_it_of_nobody()
     ensures { (s : Setting) (w : World) (place : Place) (first last k : ℕ) → IsSemaphore s w place first last
         → first ≤ k → k < last
-        → let v = after s w k in let d = next_dispatch s v in
+        → let v = ready (after s w k) in let d = next_dispatch s v in
         (p : Process) → process_at v.processes d.current ≡ Some p
         → (timeout : ℕ) → Wants (before s v d.current p) place timeout
         → Answers (effect (before s v d.current p)) (owner 0 (told place v.lines)) timeout }

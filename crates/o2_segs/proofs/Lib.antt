@@ -10,3 +10,4 @@ pub mod Members
 pub mod AloneFreed
 pub mod FreeingRuns
 pub mod RunFreed
+pub mod Discarded

@@ -159,10 +159,10 @@ pub added_out : (s t : Shelf) (id : SegId) (e : Entry) → IsShelf s → Adds s 
 added_out s t id e h a = ap (λ (x : Shelf). place_of x id.key) a.shelf ∙ (h.each id.key a.within).dead a.vacant
 
 pub new_adds : (s t : Shelf) (id : SegId) (size flags n : ℕ) (b : Bool) → n ≡ full_size size → b ≡ (has_bit flags 0 || has_bit flags 1)
-    → Adds s t id (record { age = s.made; size = n; kept = 0; image = None; attr = record { flags = flags; lock = 0; clean = false; shared = b } }) → Adds s t id (new_entry s.made (full_size size) flags)
+    → Adds s t id (record { age = s.made; size = n; kept = 0; image = None; attr = record { flags = flags; lock = 0; clean = false; shared = b; gone = false } }) → Adds s t id (new_entry s.made (full_size size) flags)
 new_adds s t id size flags n b en eb a =
     subst (λ (k : ℕ). Adds s t id (new_entry s.made k flags)) en
-    (subst (λ (x : Bool). Adds s t id (record { age = s.made; size = n; kept = 0; image = None; attr = record { flags = flags; lock = 0; clean = false; shared = x } })) eb a)
+    (subst (λ (x : Bool). Adds s t id (record { age = s.made; size = n; kept = 0; image = None; attr = record { flags = flags; lock = 0; clean = false; shared = x; gone = false } })) eb a)
 
 -- what is named in a list was there before
 

@@ -1,6 +1,7 @@
 -- What the row of a new size comes to.
 use Rattle.std.proofs.Common.{◌≡◌, ℕ, ◌<◌, ◌/◌, ◌%◌, ◌&&◌, ◌||◌, ◌==◌, Some, None, Bool, true, false, nat_lt, not, option_map, List, [], ◌∷◌, sym, ap, ◌∙◌, subst, arith, if◌then◌else◌}
 use Rattle.std.proofs.lemmas.Bool.{cond-true, cond-false}
+use Rattle.o2_desc.specs.Bits.{has_bit}
 use Rattle.o2_regions.specs.declared.answer.Roomed.{Roomed}
 use Rattle.o2_regions.specs.declared.held.Held.{Held as HeldThere}
 use Rattle.o2_regions.specs.Maps.{Maps}
@@ -11,7 +12,7 @@ use Rattle.o2_store.specs.declared.brought.Brought.{Brought}
 use Rattle.o2_stands.specs.Stands.{Matches}
 use Rattle.o2_world.specs.World.{World}
 use Rattle.o2_world.specs.Changes.{Change, Resizes, with_all, with_change, with_changes}
-use Rattle.o2_world.specs.Rulings.{Ruling, full_size, grants, is_alias, reallocation, reallocation_of, reallocation_with, refusal}
+use Rattle.o2_world.specs.Rulings.{Ruling, full_size, grants, is_alias, reallocation, reallocation_of, reallocation_with, refusal, resizes_with}
 use Rattle.o2_stands.specs.Knows.{Others, known_in, marks_under}
 use Rattle.o2_stands.specs.Moves.{moved}
 use Rattle.o2_stands.specs.Parts.{Parts, cause_of, held_of}
@@ -22,7 +23,7 @@ use Rattle.o2_segs.proofs.Stops.{stop_changes}
 
 -- a size that a segment keeps
 abbrev pub keeps : Shelf → ℕ → ℕ → Bool
-keeps s k size = (entry s k).attr.clean || ((entry s k).attr.shared && nat_lt size (entry s k).size)
+keeps s k size = (entry s k).attr.clean || ((entry s k).attr.shared && (not (has_bit (entry s k).attr.flags 3) && nat_lt size (entry s k).size))
 
 pub realloc_none : (p : Parts) (o : Others) (m : Maps) (pid size s : ℕ) → p.maps ≡ m → under m pid s ≡ None → reallocation (known_in p o) pid size s ≡ refusal 5
 realloc_none p o m pid size s em e = ap (reallocation_of (known_in p o) (full_size size)) (under_is p o pid s ∙ ap (option_map (held_of p.maps pid (s / 8))) (at_maps p m pid s None em e))
@@ -43,13 +44,14 @@ pub realloc_kept : (p : Parts) (o : Others) (sh : Shelf) (m : Maps) (pid size s 
     → keeps sh h.id.key (full_size size) ≡ true → reallocation (known_in p o) pid size s ≡ refusal 5
 realloc_kept p o sh m pid size s h es em named e t k =
     tried p o sh m pid size s h es em named e t
-    ∙ cond-true (keeps p.shelf h.id.key (full_size size)) (refusal 5) (grants 0 (Resizes h.id.age (full_size size) ∷ [])) (subst (λ (x : Shelf). keeps x h.id.key (full_size size) ≡ true) (sym es) k)
+    ∙ cond-true (keeps p.shelf h.id.key (full_size size)) (refusal 5) (grants 0 (resizes_with h.id.age (full_size size) (entry p.shelf h.id.key).attr.gone)) (subst (λ (x : Shelf). keeps x h.id.key (full_size size) ≡ true) (sym es) k)
 
 pub realloc_done : (p : Parts) (o : Others) (sh : Shelf) (m : Maps) (pid size s : ℕ) (h : HeldThere) → p.shelf ≡ sh → p.maps ≡ m → AreNamed sh m → under m pid s ≡ Some h → (is_alias (cause_of h.cause) || not (h.reserved == 0)) ≡ false
-    → keeps sh h.id.key (full_size size) ≡ false → reallocation (known_in p o) pid size s ≡ grants 0 (Resizes h.id.age (full_size size) ∷ [])
-realloc_done p o sh m pid size s h es em named e t k =
+    → keeps sh h.id.key (full_size size) ≡ false → (gone : Bool) → (entry sh h.id.key).attr.gone ≡ gone → reallocation (known_in p o) pid size s ≡ grants 0 (resizes_with h.id.age (full_size size) gone)
+realloc_done p o sh m pid size s h es em named e t k gone mark =
     tried p o sh m pid size s h es em named e t
-    ∙ cond-false (keeps p.shelf h.id.key (full_size size)) (refusal 5) (grants 0 (Resizes h.id.age (full_size size) ∷ [])) (subst (λ (x : Shelf). keeps x h.id.key (full_size size) ≡ false) (sym es) k)
+    ∙ cond-false (keeps p.shelf h.id.key (full_size size)) (refusal 5) (grants 0 (resizes_with h.id.age (full_size size) (entry p.shelf h.id.key).attr.gone)) (subst (λ (x : Shelf). keeps x h.id.key (full_size size) ≡ false) (sym es) k)
+    ∙ ap (λ (b : Bool). grants 0 (resizes_with h.id.age (full_size size) b)) (ap (λ (x : Shelf). (entry x h.id.key).attr.gone) es ∙ mark)
 
 -- A new size as the change of the row, and a stop, which changes nothing.
 

@@ -4,3 +4,4 @@ pub mod Made
 pub mod Limits
 pub mod Sharing
 pub mod Members
+pub mod Remade

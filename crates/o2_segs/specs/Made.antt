@@ -38,7 +38,7 @@ allocation_to k n size flags to = if nat_le k.most k.count then refusal 8 else a
 -- A store with one segment more of such a size and such flags, out of memory and not locked, of which this is so.
 
 abbrev pub new_entry : (made size flags : ℕ) → Entry
-new_entry made size flags = record { age = made; size = size; kept = 0; image = None; attr = record { flags = flags; lock = 0; clean = false; shared = has_bit flags 0 || has_bit flags 1 } }
+new_entry made size flags = record { age = made; size = size; kept = 0; image = None; attr = record { flags = flags; lock = 0; clean = false; shared = has_bit flags 0 || has_bit flags 1; gone = false } }
 
 pub record IsWithNew (s : Shelf) (size flags : ℕ) (says : Shelf → SegId → Type 0) : Type 0 where
   pub store : Shelf

@@ -213,6 +213,7 @@ fn lock_new<S: SwapDevice>(
     requires unheld { IsUnheld regions.old id }
     requires newest { IsNewest store.old id }
     requires bare { ((entry store.old id.key).image ≡ None) × ((entry store.old id.key).kept ≡ 0) }
+    requires whole { (entry store.old id.key).attr.gone ≡ false }
     requires order { IsInOrder store.old regions.old }
     requires pictures { HasAll (HasPicture images.now) store.old }
     requires backed { IsBacked store.old images.now (S.blocks swap.old) }

@@ -6,6 +6,7 @@ mod allocating;
 mod asking;
 mod freeing;
 mod reallocating;
+mod remaking;
 mod sizing;
 
 pub use aliasing::create_cs_alias;
@@ -15,4 +16,5 @@ pub use asking::{
 };
 pub use freeing::{end_of_run, free_seg, is_later};
 pub use reallocating::realloc_seg;
+pub use remaking::is_discarded;
 pub use sizing::size_seg;

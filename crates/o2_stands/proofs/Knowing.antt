@@ -10,7 +10,7 @@ use Rattle.o2_world.specs.Holders.{process_at}
 use Rattle.o2_world.specs.Known.{Marks, known_of, lives_at, marks_of}
 use Rattle.o2_stands.specs.Parts.{Parts, goes_on, running_of}
 use Rattle.o2_stands.specs.Stands.{AreLawful, IsIndex, IsNamed, IsSetTo, Stands, number_of}
-use Rattle.o2_stands.specs.Knows.{KnowsAs, Others, code_of, discarded_of, known_in, marks_under, others_of, region_by}
+use Rattle.o2_stands.specs.Knows.{KnowsAs, Others, code_of, known_in, marks_under, others_of, region_by}
 use Rattle.o2_stands.proofs.Rooms.{count_is}
 
 abbrev made : (size : ℕ) (clean code : Bool) (flags lock : ℕ) (shared discarded : Bool) → Marks
@@ -38,17 +38,16 @@ region_is m (Private (suc n)) i x = refl
 region_is m Shared i x = refl
 
 module _ (p : Parts) (s : Setting) (w : World) (lawful : AreLawful p.shelf p.maps) (set : IsSetTo p s) (stands : Stands p w) where
-  marked : (n : ℕ) (o : Option ℕ) (v : Option Segment) → IsNamed p o v → (o2 : Others) → o2.code n ≡ code_of v → o2.discarded n ≡ discarded_of v
-      → option_map marks_of v ≡ option_map (marks_under p o2 n) o
-  marked n None None is o2 c d = refl
-  marked n (Some k) None is o2 c d = absurd is
-  marked n None (Some x) is o2 c d = absurd is
-  marked n (Some k) (Some x) is o2 c d = ap Some (same_marks _ _ _ _ _ _ _ _ _ _ _ _ _ _ is.size is.clean (sym c) is.flags is.lock is.shared (sym d))
+  marked : (n : ℕ) (o : Option ℕ) (v : Option Segment) → IsNamed p o v → (o2 : Others) → o2.code n ≡ code_of v → option_map marks_of v ≡ option_map (marks_under p o2 n) o
+  marked n None None is o2 c = refl
+  marked n (Some k) None is o2 c = absurd is
+  marked n None (Some x) is o2 c = absurd is
+  marked n (Some k) (Some x) is o2 c = ap Some (same_marks _ _ _ _ _ _ _ _ _ _ _ _ _ _ is.size is.clean (sym c) is.flags is.lock is.shared is.discarded)
 
   pub known_is : KnowsAs p.maps (known_of s w) (known_in p (others_of s w))
   known_is = record {
     held = stands.held;
-    segment = λ n. marked n (key_of p.shelf n) (get w.names n) (stands.segments n) (others_of s w) refl refl;
+    segment = λ n. marked n (key_of p.shelf n) (get w.names n) (stands.segments n) (others_of s w) refl;
     taken = λ g i x. stands.taken g i x ∙ ap (λ (r : Region). is_taken p.maps r i) (sym (region_is p.maps g i x));
     text = λ t. refl;
     lives = λ n. lives_on (process_at w.processes n) ∙ ap goes_on (stands.processes n);

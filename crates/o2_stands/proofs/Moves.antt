@@ -102,6 +102,7 @@ named_same p q w b (Some k) (Some s) is = record {
   flags = is.flags ∙ ap (λ (a : Attr). a.flags) (sym (w.attrs k));
   lock = is.lock ∙ ap (λ (a : Attr). a.lock) (sym (w.attrs k));
   shared = is.shared ∙ ap (λ (a : Attr). a.shared) (sym (w.attrs k));
+  discarded = is.discarded ∙ ap (λ (a : Attr). a.gone) (sym (w.attrs k));
 }
 
 pub same_stands : (p q : Parts) (ps : List Process) (names : Map Segment) (next : ℕ) (reserved : List Reserve) → SameFor p q → IsReady q
@@ -246,6 +247,7 @@ module _ (p : Parts) (t : Shelf) (m : Maps) (f : KeepsStore p.shelf t) (g : Keep
         flags = is.flags ∙ ap (λ (a : Attr). a.flags) (sym (w.attrs k));
         lock = is.lock ∙ ap (λ (a : Attr). a.lock) (sym (w.attrs k));
         shared = is.shared ∙ ap (λ (a : Attr). a.shared) (sym (w.attrs k));
+        discarded = is.discarded ∙ ap (λ (a : Attr). a.gone) (sym (w.attrs k));
       }
 
   pub written_at : (names : Map Segment) (bytes : ℕ → List ℕ) → ((n : ℕ) → IsNamed p (key_of p.shelf n) (get names n)) → AreWritten names t bytes

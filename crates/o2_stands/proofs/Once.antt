@@ -2,11 +2,13 @@
 use Rattle.std.proofs.Common.{◌≡◌, ℕ, Bool, true, false, cond, List, [], ◌∷◌, Option, Some, None, is_some, refl, ◌∙◌, arith, if◌then◌else◌}
 use Rattle.std.specs.Prelude.{filter, option_map, ◌==◌}
 use Rattle.std.specs.List.{list_any}
-use Rattle.o2_world.specs.Changes.{Change, Drops, Finishes, Frees, Holds, Locks, Makes, Marks, Names, Reserves, Resizes, resized, swept, takes, with_all, with_change, with_changes}
+use Rattle.o2_world.specs.Changes.{Change, Drops, Finishes, Frees, Holds, Locks, Makes, Marks, Names, Reserves, Resizes, marked, resized, swept, takes, with_all, with_change, with_changes}
+use Rattle.o2_world.specs.Discards.{all_discarded, behind_discard}
 use Rattle.o2_world.specs.Holders.{is_held}
 use Rattle.o2_world.specs.Map.{Map, at_key, get}
 use Rattle.o2_world.specs.Tied.{AreFitChanges, IsTied}
-use Rattle.o2_world.specs.World.{Segment, World}
+use Rattle.o2_world.specs.World.{Process, Segment, World}
+use Rattle.o2_world.proofs.Discarding.{get_discarded}
 use Rattle.o2_world.proofs.MapLemmas.{get-filter, get-map}
 use Rattle.o2_world.proofs.TiedChanges.{change_tied}
 use Rattle.o2_stands.specs.Stands.{AreOnce}
@@ -24,6 +26,12 @@ once_at_key n f [] once = once
 once_at_key n f (e ∷ es) once =
     let put : ℕ → Segment → Segment = λ k s. if k == n then f s else s in
     (get-map put es e.0 ∙ none_stays (put e.0) (get es e.0) once.0, once_at_key n f es once.1)
+
+-- behind a word that discards
+pub once_discarded : (ps : List Process) (m : Map Segment) → AreOnce m → AreOnce (all_discarded ps m)
+unfolding all_discarded
+once_discarded ps [] once = once
+once_discarded ps (e ∷ es) once = (get_discarded ps es e.0 ∙ none_stays (behind_discard ps e.0) (get es e.0) once.0, once_discarded ps es once.1)
 
 -- where some names go
 pub once_kept : (p : ℕ → Bool) (m : Map Segment) → AreOnce m → AreOnce (filter (λ (e : ℕ × Segment). p e.0) m)
@@ -46,7 +54,7 @@ pub once_change : (w : World) (c : Change) → IsTied w → AreOnce w.names → 
 once_change w (Makes s) tied once = (new_is w tied, once)
 once_change w (Resizes n size) tied once = once_at_key n (λ (s : Segment). record s { bytes = resized size s.bytes }) w.names once
 once_change w (Locks n count) tied once = once_at_key n (λ (s : Segment). record s { lock = count }) w.names once
-once_change w (Marks n discarded) tied once = once_at_key n (λ (s : Segment). record s { discarded = discarded }) w.names once
+once_change w (Marks n discarded) tied once = once_at_key n (marked discarded) w.names once
 once_change w (Holds p i h) tied once = once
 once_change w (Drops p i count) tied once = once
 once_change w (Finishes p state) tied once = once

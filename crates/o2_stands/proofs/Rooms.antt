@@ -12,6 +12,7 @@ use Rattle.o2_place.proofs.Sums.{over-le, over-same}
 use Rattle.o2_store.specs.Loads.{block_load, live_load, memory_load, swap_load}
 use Rattle.o2_store.specs.Needs.{has_age}
 use Rattle.o2_store.specs.Shelf.{Shelf, IsSegmentAt, IsShelf, aged as with_age, blocks_for, entry, entry_of, entry_or, place_of, rounded}
+use Rattle.o2_store.proofs.Tables.{never_gone}
 use Rattle.o2_segbus.specs.Guards.{AreAged}
 use Rattle.o2_segbus.specs.Seen.{key_of, number_from}
 use Rattle.o2_segbus.proofs.Ages.{aged_key}
@@ -19,7 +20,7 @@ use Rattle.o2_service.specs.Needs.{AreLive, all_needed, needed, needs, size_in}
 use Rattle.o2_world.specs.Map.{Map, get}
 use Rattle.o2_world.specs.World.{Process, Reserve, Segment}
 use Rattle.o2_world.specs.Known.{live_below}
-use Rattle.o2_run.specs.Room.{is_in, is_locked, larger, load_between, numbers, of_both, room_between, size_of, blocks_of, rounded as whole}
+use Rattle.o2_run.specs.Room.{is_in, is_locked, kept_size, larger, load_between, needs as takes, numbers, of_both, room_between, size_of, blocks_of, rounded as whole}
 use Rattle.o2_stands.specs.Parts.{Parts}
 use Rattle.o2_stands.specs.Stands.{AreLawful, IsNamed, IsSegment, StandsIn}
 use Rattle.o2_stands.specs.Sums.{AreAllHere, AreAtLeast, AreAtMost, IsAmong, IsWithin, NoneGrows, SaysNeed, part_of}
@@ -124,6 +125,24 @@ weigh lock true is false size other size2 other2 h l m = ap (λ (b : Bool). if b
 weigh lock false true false size other size2 other2 h l m = absurd (false≢true (h refl))
 weigh lock false false false size other size2 other2 h l m = ap (λ (b : Bool). if b || false then whole (max size other) else 0) l
 
+-- what is neither locked nor needed doesn't count
+nothing : (lock was is named : Bool) → (is ≡ true → (was || named) ≡ true) → lock ≡ was → (was || named) ≡ false → (named || (lock || is)) ≡ false
+nothing lock true is named h l f = absurd (false≢true (sym f))
+nothing lock false is true h l f = absurd (false≢true (sym f))
+nothing lock false true false h l f = absurd (false≢true (h refl))
+nothing lock false false false h l f = ap (λ (b : Bool). b || false) l
+
+kept_le : (v : Option Segment) → kept_size v ≤ size_of v
+kept_le None = omega arith
+kept_le (Some x) = go x.discarded
+  where
+    go : (b : Bool) → (if b then 0 else length x.bytes) ≤ length x.bytes
+    go true = omega arith
+    go false = omega arith
+
+positive : (c : ℕ) → nat_lt 0 c ≡ true → 0 < c
+positive c f = grind arith
+
 -- A front of a list weighs no more than the list.
 front_le : (g : ℕ → ℕ) (c : ℕ → Bool) (xs ys : List ℕ) → sum (map g (filter c xs)) ≤ sum (map g (filter c (xs ++ ys)))
 front_le g c [] ys = omega arith
@@ -217,16 +236,44 @@ module _ (p : Parts) (ps : List Process) (names : Map Segment) (next : ℕ) (res
   name_size n k None named = absurd named
   name_size n k (Some y) named = named.size
 
+  kept_is : (k : ℕ) (v : Option Segment) → IsNamed p (Some k) v → (entry s k).attr.gone ≡ false → kept_size v ≡ (entry s k).size
+  kept_is k None named whole = absurd named
+  kept_is k (Some y) named whole = rw (named.discarded ∙ whole) named.size
+
+  -- what is locked, or needed where none of that is discarded, isn't discarded
+  not_gone : (need : List (SegId × ℕ)) → ((k : ℕ) → needs need k ≡ true → (entry s k).attr.gone ≡ false) → (k : ℕ) → IsSome (slot_at s.entries k)
+      → (nat_lt 0 (entry s k).attr.lock || needs need k) ≡ true → (entry s k).attr.gone ≡ false
+  not_gone need whole k live e = by (nat_lt 0 (entry s k).attr.lock) refl e
+    where
+      segment : IsSegmentAt s k
+      segment = lawful.shelf.each k (below_all s k live)
+
+      locked : 0 < (entry s k).attr.lock → (g : Bool) → (entry s k).attr.gone ≡ g → g ≡ false
+      locked l true f = absurd (never_gone (entry s k) (place_of s k) (segment.locked l) (segment.gone f))
+      locked l false f = refl
+
+      by : (b : Bool) → nat_lt 0 (entry s k).attr.lock ≡ b → (b || needs need k) ≡ true → (entry s k).attr.gone ≡ false
+      by true f e = locked (positive (entry s k).attr.lock f) (entry s k).attr.gone refl
+      by false f e = whole k e
+
   room_name : (new : Map Segment) (list : List ℕ) (need : List (SegId × ℕ)) → SaysNeed s names new list need → (n k : ℕ) (x : Segment) → key_of s n ≡ Some k → IsSegment p k x
-      → (if counted new list n then larger names new n else 0) ≡ needed s need k
+      → (if counted new list n then takes names new n else 0) ≡ needed s need k
   room_name new list need w n k x e is =
       let here : IsNamed p (Some k) (get names n) = subst (λ (o : Option ℕ). IsNamed p o (get names n)) e (stands.segments n) in
-      let size = name_size n k (get names n) here in
       let lock = name_is n k x e is (get names n) here in
-      ap (λ (b : Bool). if b || (is_locked (get names n) || is_locked (get new n)) then larger names new n else 0) (w.needed n k e)
-      ∙ weigh (is_locked (get names n)) (nat_lt 0 (entry s k).attr.lock) (is_locked (get new n)) (needs need k)
-      (size_of (get names n)) (size_of (get new n)) (entry s k).size (size_in need k) (w.locks n k e) lock
-      (ap (λ (c : ℕ). max c (size_of (get new n))) size ∙ w.sizes n k e)
+      ap (λ (b : Bool). if b || (is_locked (get names n) || is_locked (get new n)) then takes names new n else 0) (w.needed n k e)
+      ∙ by here lock (nat_lt 0 (entry s k).attr.lock || needs need k) refl
+    where
+      by : IsNamed p (Some k) (get names n) → is_locked (get names n) ≡ nat_lt 0 (entry s k).attr.lock → (b : Bool) → (nat_lt 0 (entry s k).attr.lock || needs need k) ≡ b
+          → (if needs need k || (is_locked (get names n) || is_locked (get new n)) then takes names new n else 0) ≡ needed s need k
+      by here lock true f =
+          weigh (is_locked (get names n)) (nat_lt 0 (entry s k).attr.lock) (is_locked (get new n)) (needs need k)
+          (kept_size (get names n)) (size_of (get new n)) (entry s k).size (size_in need k) (w.locks n k e) lock
+          (ap (λ (c : ℕ). max c (size_of (get new n))) (kept_is k (get names n) here (not_gone need w.whole k (found_at s n k e).0 f)) ∙ w.sizes n k e)
+      by here lock false f =
+          ap (λ (b : Bool). if b then takes names new n else 0)
+          (nothing (is_locked (get names n)) (nat_lt 0 (entry s k).attr.lock) (is_locked (get new n)) (needs need k) (w.locks n k e) lock f)
+          ∙ sym (ap (λ (b : Bool). if b then rounded (max (entry s k).size (size_in need k)) else 0) f)
 
   room_slot : (need : List (SegId × ℕ)) → AreLive s need → (k : ℕ) → in_slot (needed s need) k (slot_at s.entries k) ≡ needed s need k
   room_slot need live k = go (slot_at s.entries k) refl
@@ -242,9 +289,9 @@ module _ (p : Parts) (ps : List Process) (names : Map Segment) (next : ℕ) (res
   -- what is needed or locked takes as much by names as by numbers
   pub room_is : (new : Map Segment) (list : List ℕ) (need : List (SegId × ℕ)) → SaysNeed s names new list need → room_between names new list ≡ all_needed s need
   room_is new list need w =
-      ap (λ (ns : List ℕ). sum (map (larger names new) (filter (counted new list) ns))) (both_old names new w.within)
-      ∙ (picked_sum (larger names new) (counted new list) names
-      ∙ names_sum (λ n x. if counted new list n then larger names new n else 0) (needed s need) (needed s need) (room_name new list need w) (room_slot need w.live))
+      ap (λ (ns : List ℕ). sum (map (takes names new) (filter (counted new list) ns))) (both_old names new w.within)
+      ∙ (picked_sum (takes names new) (counted new list) names
+      ∙ names_sum (λ n x. if counted new list n then takes names new n else 0) (needed s need) (needed s need) (room_name new list need w) (room_slot need w.live))
 
   grown : (size other : ℕ) → other ≤ size → max size other ≡ size
   grown size other l = omega arith
@@ -319,20 +366,17 @@ module _ (p : Parts) (ps : List Process) (names : Map Segment) (next : ℕ) (res
   named_by_key : (k : ℕ) → IsSome (slot_at s.entries k) → IsNamed p (Some k) (get names (entry s k).age)
   named_by_key k live = subst (λ (o : Option ℕ). IsNamed p o (get names (entry s k).age)) (aged_key s k stands.ready.aged live) (stands.segments (entry s k).age)
 
-  least_slot : (new : Map Segment) (list : List ℕ) (need : List (SegId × ℕ)) → IsAmong s new list need → (k : ℕ) → needed s need k ≤ in_slot (λ j. if counted new list (entry s j).age then larger names new (entry s j).age else 0) k (slot_at s.entries k)
+  least_slot : (new : Map Segment) (list : List ℕ) (need : List (SegId × ℕ)) → IsAmong s new list need → (k : ℕ) → needed s need k ≤ in_slot (λ j. if counted new list (entry s j).age then takes names new (entry s j).age else 0) k (slot_at s.entries k)
   least_slot new list need w k = go (slot_at s.entries k) refl
     where
-      go : (o : Option Entry) → slot_at s.entries k ≡ o → needed s need k ≤ in_slot (λ j. if counted new list (entry s j).age then larger names new (entry s j).age else 0) k o
+      go : (o : Option Entry) → slot_at s.entries k ≡ o → needed s need k ≤ in_slot (λ j. if counted new list (entry s j).age then takes names new (entry s j).age else 0) k o
       go None q = (let z : needed s need k ≡ 0 = sym (ap (λ (o : Option Entry). in_slot (needed s need) k o) (sym q) ∙ room_slot need w.live k) in omega (arith, z))
       go (Some e) q =
           (let n = (entry s k).age in
           let live : IsSome (slot_at s.entries k) = ap is_some q in
           let here = named_by_key k live in
           let key = aged_key s k stands.ready.aged live in
-          let new_size = size_of (get new n) in
-          least (is_locked (get names n) || is_locked (get new n)) (nat_lt 0 (entry s k).attr.lock) (is_in n list) (needs need k) (size_of (get names n)) new_size (entry s k).size (size_in need k)
-          (λ l. or_left (is_locked (get names n)) (is_locked (get new n)) (locked_is k (get names n) here ∙ l)) (w.named n k key) (name_size n k (get names n) here)
-          (sized (needs need k) refl (w.sizes n k key)))
+          by n refl live here key (nat_lt 0 (entry s k).attr.lock || needs need k) refl)
         where
           or_left : (a b : Bool) → a ≡ true → (a || b) ≡ true
           or_left true b q = refl
@@ -342,24 +386,32 @@ module _ (p : Parts) (ps : List Process) (names : Map Segment) (next : ℕ) (res
           locked_is k None named = absurd named
           locked_is k (Some y) named = ap (λ (c : ℕ). nat_lt 0 c) named.lock
 
-          sized : (b : Bool) → needs need k ≡ b → (needs need k ≡ true → size_in need k ≤ max (entry s k).size (size_of (get new (entry s k).age))) → size_in need k ≤ max (entry s k).size (size_of (get new (entry s k).age))
-          sized true e f = f e
-          sized false e f = (let z = no_size need k e in omega (arith, z))
+          sized : (n : ℕ) (b : Bool) → needs need k ≡ b → (needs need k ≡ true → size_in need k ≤ max (entry s k).size (size_of (get new n))) → size_in need k ≤ max (entry s k).size (size_of (get new n))
+          sized n true e f = f e
+          sized n false e f = (let z = no_size need k e in omega (arith, z))
+
+          by : (n : ℕ) → n ≡ (entry s k).age → IsSome (slot_at s.entries k) → IsNamed p (Some k) (get names n) → key_of s n ≡ Some k → (b : Bool) → (nat_lt 0 (entry s k).attr.lock || needs need k) ≡ b
+              → needed s need k ≤ (if counted new list n then takes names new n else 0)
+          by n is live here key true f =
+              least (is_locked (get names n) || is_locked (get new n)) (nat_lt 0 (entry s k).attr.lock) (is_in n list) (needs need k) (kept_size (get names n)) (size_of (get new n)) (entry s k).size (size_in need k)
+              (λ l. or_left (is_locked (get names n)) (is_locked (get new n)) (locked_is k (get names n) here ∙ l)) (w.named n k key) (kept_is k (get names n) here (not_gone need w.whole k live f))
+              (sized n (needs need k) refl (w.sizes n k key))
+          by n is live here key false f = (let z : needed s need k ≡ 0 = ap (λ (b : Bool). if b then rounded (max (entry s k).size (size_in need k)) else 0) f in omega (arith, z))
 
   -- what is needed is part of the room
   pub room_least : (new : Map Segment) (list : List ℕ) (need : List (SegId × ℕ)) → IsAmong s new list need → all_needed s need ≤ room_between names new list
   room_least new list need w =
-      let weight : ℕ → ℕ = λ n. if counted new list n then larger names new n else 0 in
-      let a = front_le (larger names new) (counted new list) (numbers names) (filter (λ n. not (is_in n (numbers names))) (numbers new)) in
-      let b = picked_sum (larger names new) (counted new list) names in
+      let weight : ℕ → ℕ = λ n. if counted new list n then takes names new n else 0 in
+      let a = front_le (takes names new) (counted new list) (numbers names) (filter (λ n. not (is_in n (numbers names))) (numbers new)) in
+      let b = picked_sum (takes names new) (counted new list) names in
       let c = aged weight in
       let d = over-le (needed s need) (λ k. in_slot (λ j. weight (entry s j).age) k (slot_at s.entries k)) (length s.entries) (λ k l. least_slot new list need w k) in
       omega (arith, a, b, c, d)
 
-  most_slot : (new : Map Segment) (list : List ℕ) → AreAllHere s names new list → (k : ℕ) → in_slot (λ j. if counted new list (entry s j).age then larger names new (entry s j).age else 0) k (slot_at s.entries k) ≤ len_of (place_of s k)
+  most_slot : (new : Map Segment) (list : List ℕ) → AreAllHere s names new list → (k : ℕ) → in_slot (λ j. if counted new list (entry s j).age then takes names new (entry s j).age else 0) k (slot_at s.entries k) ≤ len_of (place_of s k)
   most_slot new list w k = go (slot_at s.entries k) refl
     where
-      go : (o : Option Entry) → slot_at s.entries k ≡ o → in_slot (λ j. if counted new list (entry s j).age then larger names new (entry s j).age else 0) k o ≤ len_of (place_of s k)
+      go : (o : Option Entry) → slot_at s.entries k ≡ o → in_slot (λ j. if counted new list (entry s j).age then takes names new (entry s j).age else 0) k o ≤ len_of (place_of s k)
       go None q = omega arith
       go (Some e) q = at (is_in n list) refl (is_locked (get names n)) refl (is_locked (get new n)) refl
         where
@@ -375,21 +427,19 @@ module _ (p : Parts) (ps : List Process) (names : Map Segment) (next : ℕ) (res
           segment : IsSegmentAt s k
           segment = lawful.shelf.each k (below_all s k live)
 
-          whole_len : IsSome (place_of s k) → larger names new n ≤ len_of (place_of s k)
+          whole_len : IsSome (place_of s k) → takes names new n ≤ len_of (place_of s k)
           whole_len i =
               (let l = placed_len (place_of s k) (rounded (entry s k).size) i segment.placed in
               let a = name_size n k (get names n) (named_by_key k live) in
               let b = w.grows.sizes n k key in
-              omega (arith, l, a, b))
+              let c = kept_le (get names n) in
+              omega (arith, l, a, b, c))
 
           lock_is : (v : Option Segment) → IsNamed p (Some k) v → is_locked v ≡ nat_lt 0 (entry s k).attr.lock
           lock_is None named = absurd named
           lock_is (Some y) named = ap (λ (c : ℕ). nat_lt 0 c) named.lock
 
-          positive : (c : ℕ) → nat_lt 0 c ≡ true → 0 < c
-          positive c f = grind arith
-
-          at : (a : Bool) → is_in n list ≡ a → (b : Bool) → is_locked (get names n) ≡ b → (d : Bool) → is_locked (get new n) ≡ d → (if a || (b || d) then larger names new n else 0) ≤ len_of (place_of s k)
+          at : (a : Bool) → is_in n list ≡ a → (b : Bool) → is_locked (get names n) ≡ b → (d : Bool) → is_locked (get new n) ≡ d → (if a || (b || d) then takes names new n else 0) ≤ len_of (place_of s k)
           at true f b g d h = whole_len (w.here n k key (ap (λ (z : Bool). z || is_locked (get new n)) f))
           at false f true g d h = whole_len (segment.locked (positive (entry s k).attr.lock (sym (lock_is (get names n) (named_by_key k live)) ∙ g)))
           at false f false g true h = whole_len (w.here n k key (ap (λ (z : Bool). z || is_locked (get new n)) f ∙ h))
@@ -398,9 +448,9 @@ module _ (p : Parts) (ps : List Process) (names : Map Segment) (next : ℕ) (res
   -- where all is in memory the room is no more than that
   pub room_most : (new : Map Segment) (list : List ℕ) → AreAllHere s names new list → room_between names new list ≤ s.places.size
   room_most new list w =
-      let weight : ℕ → ℕ = λ n. if counted new list n then larger names new n else 0 in
-      let a = ap (λ (ns : List ℕ). sum (map (larger names new) (filter (counted new list) ns))) (both_old names new w.grows.within) in
-      let b = picked_sum (larger names new) (counted new list) names in
+      let weight : ℕ → ℕ = λ n. if counted new list n then takes names new n else 0 in
+      let a = ap (λ (ns : List ℕ). sum (map (takes names new) (filter (counted new list) ns))) (both_old names new w.grows.within) in
+      let b = picked_sum (takes names new) (counted new list) names in
       let c = aged weight in
       let d = over-le (λ k. in_slot (λ j. weight (entry s j).age) k (slot_at s.entries k)) (λ k. len_of (place_of s k)) (length s.entries) (λ k l. most_slot new list w k) in
       let e = lawful.room in
@@ -447,8 +497,8 @@ module _ (p : Parts) (ps : List Process) (names : Map Segment) (next : ℕ) (res
   pub room_at_least : (new : Map Segment) (list : List ℕ) (weight : ℕ → ℕ) → AreAtLeast s names new list weight → over weight (length s.entries) ≤ room_between names new list
   room_at_least new list weight w =
       let part : ℕ → ℕ = part_of names new list in
-      let a = front_le (larger names new) (counted new list) (numbers names) (filter (λ n. not (is_in n (numbers names))) (numbers new)) in
-      let b = picked_sum (larger names new) (counted new list) names in
+      let a = front_le (takes names new) (counted new list) (numbers names) (filter (λ n. not (is_in n (numbers names))) (numbers new)) in
+      let b = picked_sum (takes names new) (counted new list) names in
       let c = aged part in
       let d = over-le weight (λ k. in_slot (λ j. part (entry s j).age) k (slot_at s.entries k)) (length s.entries) (λ k l. at_least_slot new list weight w k) in
       omega (arith, a, b, c, d)
@@ -465,8 +515,8 @@ module _ (p : Parts) (ps : List Process) (names : Map Segment) (next : ℕ) (res
   pub room_at_most : (new : Map Segment) (list : List ℕ) (weight : ℕ → ℕ) → AreAtMost s names new list weight → room_between names new list ≤ over weight (length s.entries)
   room_at_most new list weight w =
       let part : ℕ → ℕ = part_of names new list in
-      let a = ap (λ (ns : List ℕ). sum (map (larger names new) (filter (counted new list) ns))) (both_old names new w.within) in
-      let b = picked_sum (larger names new) (counted new list) names in
+      let a = ap (λ (ns : List ℕ). sum (map (takes names new) (filter (counted new list) ns))) (both_old names new w.within) in
+      let b = picked_sum (takes names new) (counted new list) names in
       let c = aged part in
       let d = over-le (λ k. in_slot (λ j. part (entry s j).age) k (slot_at s.entries k)) weight (length s.entries) (λ k l. at_most_slot new list weight w k) in
       omega (arith, a, b, c, d)

@@ -8,13 +8,13 @@ use Rattle.o2_isa.specs.declared.cpu.Cpu.{Cpu}
 use Rattle.o2_world.specs.Map.{Map, at_key, get, put}
 use Rattle.o2_world.specs.World.{World, Setting, Held, Process, Reserve, Segment}
 use Rattle.o2_world.specs.Holders.{process_at}
-use Rattle.o2_world.specs.Changes.{Change, Drops, Holds, Makes, at_number, fewer, more, resized, with_change, with_changes}
+use Rattle.o2_world.specs.Changes.{Change, Drops, Holds, Makes, at_number, fewer, more, marked, resized, with_change, with_changes}
 use Rattle.o2_world.specs.Known.{Known, held_at, reserves, same_text, text_name}
 use Rattle.o2_world.specs.Rulings.{full_size, held_as_code, held_by_call, indexes, is_in_run, made_segment}
 use Rattle.o2_world.specs.SharedRulings.{each_more, shared_segment}
 use Rattle.o2_world.specs.Run.{before}
 use Rattle.o2_world.specs.Tied.{AreLive, IsTied, has_no_flags}
-use Rattle.o2_world.specs.Moves.{AllMoves, AreApart, AreMembers, Each, IsFreeIndex, IsFreeing, IsHeldAlone, IsOfText, IsShared, IsSharing, AreOfRuling, Moves, NoneMoves, OneAliased, OneLocked, OneMade, OneNamed, OneRun, OneSized, OwnMoves, SomeFreed, SomeShared}
+use Rattle.o2_world.specs.Moves.{AllMoves, AreApart, AreMembers, Each, IsFreeIndex, IsFreeing, IsHeldAlone, IsOfText, IsShared, IsSharing, AreOfRuling, Moves, NoneMoves, OneAliased, OneLocked, OneMade, OneNamed, OneRemade, OneRun, OneSized, OwnMoves, SomeFreed, SomeShared}
 use Rattle.o2_world.proofs.FitFrees.{at_each, is_among}
 use Rattle.o2_world.proofs.FitShares.{changes_are, held_each, share, shares_of}
 use Rattle.o2_world.proofs.MapLemmas.{get-map, if_no}
@@ -380,6 +380,33 @@ module _ (s : Setting) (w v : World) (n : ℕ) (p : Process) (same : (q j : ℕ)
           by true e x = sizes q j k m (equal_number k.name name e) x
           by false e x = refl
 
+  -- and the same of names behind other changes
+  flags_in : (names : Map Segment) (name : ℕ) (f : Segment → Segment) → ((x : Segment) → (f x).flags ≡ x.flags) → HasRunFlags (held_at v.processes) names
+      → HasRunFlags (held_at v.processes) (at_key name f names)
+  flags_in names name f flags has = record { each = λ q j k m. one q j k m }
+    where
+      one : (q j : ℕ) (k : Held) → IsMemberOf (held_at v.processes) q j k → may_be_member j (get (at_key name f names) k.name) ≡ true
+      one q j k m =
+          flags_written (λ (x : Segment). if k.name == name then f x else x) j (get names k.name)
+          (get-map (λ (q : ℕ) (x : Segment). if q == name then f x else x) names k.name) (λ x. by (k.name == name) x) (has.each q j k m)
+        where
+          by : (b : Bool) (x : Segment) → (if b then f x else x).flags ≡ x.flags
+          by true x = flags x
+          by false x = refl
+
+  full_in : (names : Map Segment) (name : ℕ) (f : Segment → Segment) → ((q j : ℕ) (k : Held) → IsMemberOf held q j k → k.name ≡ name → (x : Segment) → length (f x).bytes ≡ length x.bytes)
+      → HasFullMembers (held_at v.processes) names → HasFullMembers (held_at v.processes) (at_key name f names)
+  full_in names name f sizes has = record { each = λ q j k m t some. one q j k m t some }
+    where
+      one : (q j : ℕ) (k : Held) → IsMemberOf (held_at v.processes) q j k → IsInStretch k (j + 1) → IsSome (held_at v.processes q (j + 1)) → is_full (get (at_key name f names) k.name) ≡ true
+      one q j k m t some =
+          full_written (λ (x : Segment). if k.name == name then f x else x) (get names k.name)
+          (get-map (λ (q : ℕ) (x : Segment). if q == name then f x else x) names k.name) (λ x there. by (k.name == name) refl x) (has.each q j k m t some)
+        where
+          by : (b : Bool) → (k.name == name) ≡ b → (x : Segment) → length (if b then f x else x).bytes ≡ length x.bytes
+          by true e x = sizes q j k (record { there = sym (same q j) ∙ m.there; run = m.run }) (equal_number k.name name e) x
+          by false e x = refl
+
   -- a segment that is held alone is no member
   alone_is_none : (name : ℕ) → IsHeldAlone (before s w n p).known n name → (q j : ℕ) (k : Held) → IsMemberOf held q j k → k.name ≡ name → ⊥
   alone_is_none name a q j k m e =
@@ -531,7 +558,21 @@ module _ (s : Setting) (w v : World) (n : ℕ) (p : Process) (same : (q j : ℕ)
         flags = segment_flags name (λ (x : Segment). record x { bytes = resized (full_size size) x.bytes }) (λ x. refl);
         full = segment_full name (λ (x : Segment). record x { bytes = resized (full_size size) x.bytes }) (λ q j k m e x. absurd (alone_is_none name alone q j k m e));
       })
-  moves_behind cpu cs (OneLocked name count is) tied =
+  moves_behind cpu cs (OneRemade name size alone is) tied =
+      subst (λ (xs : List Change). AreBehind (with_changes v xs)) (sym is)
+      (record {
+        runs = unchanged.runs;
+        flags = flags_in (at_key name size_of (at_key name (marked false) v.names)) name locked (λ x. refl) (flags_in (at_key name (marked false) v.names) name size_of (λ x. refl) (flags_in v.names name (marked false) (λ x. refl) unchanged.flags));
+        full = full_in (at_key name size_of (at_key name (marked false) v.names)) name locked (λ q j k m e x. refl)
+            (full_in (at_key name (marked false) v.names) name size_of (λ q j k m e x. absurd (alone_is_none name alone q j k m e)) (full_in v.names name (marked false) (λ q j k m e x. refl) unchanged.full));
+      })
+    where
+      size_of : Segment → Segment
+      size_of x = record x { bytes = resized (full_size size) x.bytes }
+
+      locked : Segment → Segment
+      locked x = record x { lock = 1 }
+  moves_behind cpu cs (OneLocked name count lockable is) tied =
       subst (λ (xs : List Change). AreBehind (with_changes v xs)) (sym is)
       (record { runs = unchanged.runs; flags = segment_flags name (λ (x : Segment). record x { lock = count }) (λ x. refl); full = segment_full name (λ (x : Segment). record x { lock = count }) (λ q j k m e x. refl) })
   moves_behind cpu cs (OneAliased index i h there alone free is) tied = subst (λ (xs : List Change). AreBehind (with_changes v xs)) (sym is) (aliased index i h there alone free)

@@ -33,7 +33,7 @@ pub running_named : (p : Parts) (pid : ℕ) (r : Running) (o : Option ℕ) (v : 
 running_named p pid r None None is = is
 running_named p pid r (Some k) None is = is
 running_named p pid r None (Some s) is = is
-running_named p pid r (Some k) (Some s) is = record { size = is.size; bytes = is.bytes; clean = is.clean; flags = is.flags; lock = is.lock; shared = is.shared }
+running_named p pid r (Some k) (Some s) is = record { size = is.size; bytes = is.bytes; clean = is.clean; flags = is.flags; lock = is.lock; shared = is.shared; discarded = is.discarded }
 
 pub running_put : (p : Parts) (ps : List Process) (pid : ℕ) (x q : Process) → process_at ps pid ≡ Some x → ((n : ℕ) → option_map running_of (process_at ps n) ≡ p.running n)
     → (n : ℕ) → option_map running_of (process_at (with_process ps pid q) n) ≡ (with_running p pid (running_of q)).running n

@@ -11,26 +11,31 @@ use Rattle.o2_world.specs.declared.types.State.TheVariants.{Live}
 use Rattle.o2_world.specs.World.{World, Setting, Held, Process, Reserve, Segment, is_live, Cause, ByLoad, ByCall, ByAlias}
 use Rattle.o2_world.specs.Views.{segment_bytes}
 use Rattle.o2_world.specs.Holders.{process_at}
-use Rattle.o2_world.specs.Changes.{Change, Drops, Finishes, Frees, Holds, Locks, Makes, Marks, Names, Reserves, Resizes, at_number, at_place, with_change, with_changes}
+use Rattle.o2_world.specs.Changes.{Change, Drops, Finishes, Frees, Holds, Locks, Makes, Marks, Names, Reserves, Resizes, at_number, at_place, marked, with_change, with_changes}
 use Rattle.o2_world.specs.Known.{held_at, holds_index, lives_at, reserves}
 use Rattle.o2_world.specs.CallParts.{Effect}
-use Rattle.o2_world.specs.Run.{acted, all_changes, before, changed, chosen_step, is_over, next_dispatch, step, worked, working}
+use Rattle.o2_world.specs.Run.{acted, all_changes, before, changed, chosen_step, is_over, next_dispatch, ready, step, with_word, worked, working}
+use Rattle.o2_world.specs.Discards.{behind_discard, goes}
 use Rattle.o2_world.specs.Sound.{held_of}
 use Rattle.o2_world.specs.Tied.{AreFitChanges, IsSound}
 use Rattle.o2_world.specs.Map.{get}
+use Rattle.o2_world.proofs.Discarding.{get_discarded, lives_still, ready_sound}
 use Rattle.o2_world.proofs.MapLemmas.{get-map}
+use Rattle.o2_world.proofs.TiedChanges.{zeros_length}
+use Rattle.o2_world.proofs.Words.{ready_keeps, ready_stays}
 use Rattle.o2_world.proofs.Reached.{get-place}
 use Rattle.o2_world.proofs.StepReach.{end_changes, live_changes}
 use Rattle.o2_world.proofs.TiedSteps.{changes_tied}
 use Rattle.o2_world.proofs.TiedWorld.{with_more}
-use Rattle.o2_world.specs.Moves.{IsFreeIndex, Moves, NoneMoves, OneAliased, OneLocked, OneMade, OneSized, SomeFreed, AllMoves, AreOfRuling, IsShared, OneNamed, OneRun, OwnMoves, SomeShared, Each}
+use Rattle.o2_world.specs.Moves.{IsFreeIndex, Moves, NoneMoves, OneAliased, OneLocked, OneMade, OneSized, SomeFreed, AllMoves, AreOfRuling, IsShared, OneNamed, OneRemade, OneRun, OwnMoves, SomeShared, Each}
 use Rattle.o2_world.proofs.StepSound.{IsOrderly, acted_sound, all_fit, effect_orderly, next_process, worked_is_tied}
-use Rattle.o2_stands.specs.Runs.{HasFullMembers, HasRunFlags, is_full}
+use Rattle.o2_stands.specs.Runs.{HasFullMembers, HasRunFlags, is_full, may_be_member}
 use Rattle.o2_stands.specs.Stands.{IsTidy, is_by_load, is_stretch, number_of, region_at}
 use Rattle.o2_world.specs.Rulings.{by_load, is_in_run}
 use Rattle.o2_world.proofs.FitShares.{changes_are, held_each, share, shares_of}
 use Rattle.o2_stands.specs.Tidies.{AreTidyChanges, IsHeldRight, IsTidyChange, coming}
 use Rattle.o2_stands.proofs.Moves.{KeepSizes, tidy_written}
+use Rattle.o2_stands.proofs.Once.{once_discarded}
 use Rattle.o2_stands.proofs.Reserved.{or_right}
 use Rattle.o2_stands.proofs.Running.{holds_same, tidy_same}
 use Rattle.o2_stands.proofs.RunsKept.{runs_ended}
@@ -87,7 +92,8 @@ module _ (s : Setting) (w v : World) (n : ℕ) (p : Process) (reserved : v.reser
   moves_tidy cpu cs (NoneMoves is) = subst (AreTidyChanges v) (sym is) tt
   moves_tidy cpu cs (OneMade size flags i free is) = subst (AreTidyChanges v) (sym is) (tt, ((λ none. new_right v [] i _ reserved free refl refl), tt))
   moves_tidy cpu cs (OneSized name size alone is) = subst (AreTidyChanges v) (sym is) (tt, tt)
-  moves_tidy cpu cs (OneLocked name count is) = subst (AreTidyChanges v) (sym is) (tt, tt)
+  moves_tidy cpu cs (OneRemade name size alone is) = subst (AreTidyChanges v) (sym is) (tt, (tt, (tt, tt)))
+  moves_tidy cpu cs (OneLocked name count lockable is) = subst (AreTidyChanges v) (sym is) (tt, tt)
   moves_tidy cpu cs (OneAliased index i h there alone free is) = subst (AreTidyChanges v) (sym is) ((λ none. new_right v [] i _ reserved free refl refl), tt)
   moves_tidy cpu cs (SomeFreed xs frees is) = subst (AreTidyChanges v) (sym is) (drops_tidy v n xs)
 
@@ -355,16 +361,52 @@ module _ (s : Setting) (w : World) (p : Process) (at : process_at w.processes (n
       (all_tidy v d.current e (all_moves_tidy s w v d.current p refl tidy (λ cs r. (ruled cs r).0) e.cpu e.changes orderly.moves)) tidy_now (acted_sound s w p at live sound e orderly).swept
       behind_all.runs behind_all.flags behind_all.full
 
+-- Each word `discard` of the script keeps a world tidy: what goes keeps its flags, its size and its holds.
+
+member_still : (i : ℕ) (ps : List Process) (n : ℕ) (o : Option Segment) → may_be_member i (option_map (behind_discard ps n) o) ≡ may_be_member i o
+member_still i ps n None = refl
+member_still i ps n (Some s) = go (goes ps n s)
+  where
+    go : (b : Bool) → may_be_member i (Some (if b then marked true s else s)) ≡ may_be_member i (Some s)
+    go true = refl
+    go false = refl
+
+full_still : (ps : List Process) (n : ℕ) (o : Option Segment) → is_full (option_map (behind_discard ps n) o) ≡ is_full o
+full_still ps n None = refl
+full_still ps n (Some s) = go (goes ps n s)
+  where
+    go : (b : Bool) → is_full (Some (if b then marked true s else s)) ≡ is_full (Some s)
+    go true = ap (λ (size : ℕ). size == 65536) (zeros_length (length s.bytes))
+    go false = refl
+
+abbrev IsTidyWorld : World → Type 0
+IsTidyWorld w = IsTidy w.processes w.names w.reserved
+
+word_tidy : (w : World) → IsTidyWorld w → IsTidyWorld (with_word w)
+word_tidy w t =
+    let ps = w.processes in
+    record {
+      once = once_discarded ps w.names t.once;
+      used = λ n e. t.used n (sym (lives_still ps w.names n) ∙ e);
+      ended = t.ended;
+      stay = t.stay;
+      shared = t.shared;
+      run = t.run;
+      free = t.free;
+      disjoint = t.disjoint;
+      runs = t.runs;
+      flags = record { each = λ n i h m. ap (may_be_member i) (get_discarded ps w.names h.name) ∙ member_still i ps h.name (get w.names h.name) ∙ t.flags.each n i h m };
+      full = record { each = λ n i h m inside next. ap is_full (get_discarded ps w.names h.name) ∙ full_still ps h.name (get w.names h.name) ∙ t.full.each n i h m inside next };
+    }
+
 pub step_tidy : (s : Setting) (w : World) → IsSound w → IsTidy w.processes w.names w.reserved → let u = step s w in IsTidy u.processes u.names u.reserved
 unfolding step
 step_tidy s w sound tidy = go (is_over w) refl
   where
-    Tidy : World → Type 0
-    Tidy u = IsTidy u.processes u.names u.reserved
-
-    go : (b : Bool) → is_over w ≡ b → Tidy (if b then w else chosen_step s w)
+    go : (b : Bool) → is_over w ≡ b → IsTidyWorld (if b then w else chosen_step s (ready w))
     go true over = tidy
     go false runs =
-        let here = next_process s w runs in
-        subst (λ (o : Option Process). Tidy (acted s w (next_dispatch s w) o)) (sym here.1)
-        (acted_tidy s w here.0 here.1 here.2 sound _ (effect_orderly (before s w (next_dispatch s w).current here.0)) tidy)
+        let v = ready w in
+        let here = next_process s v ((ready_stays w).over ∙ runs) in
+        subst (λ (o : Option Process). IsTidyWorld (acted s v (next_dispatch s v) o)) (sym here.1)
+        (acted_tidy s v here.0 here.1 here.2 (ready_sound w sound) _ (effect_orderly (before s v (next_dispatch s v).current here.0)) (ready_keeps {P = IsTidyWorld} word_tidy w tidy))

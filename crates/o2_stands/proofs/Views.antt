@@ -17,12 +17,12 @@ use Rattle.o2_segbus.specs.declared.registers.SegmentRegisters.{SegmentRegisters
 use Rattle.o2_segbus.specs.Bus.{bus_hidden, bus_rest, bus_view, registers_of}
 use Rattle.o2_segbus.specs.Frames.{KeepsStore}
 use Rattle.o2_segbus.proofs.Keeping.{presence_stays}
-use Rattle.o2_segbus.specs.Seen.{bytes_from, bytes_in as bytes_there, bytes_under, hold_in, hold_of as hold_there, key_of, present_in, present_under, seen_with, size_in, size_under}
+use Rattle.o2_segbus.specs.Seen.{bytes_from, bytes_in as bytes_there, bytes_under, hold_in, hold_of as hold_there, key_of, present_in, present_under, seen_with, gone_in, gone_under, size_in, size_under}
 use Rattle.o2_world.specs.Map.{Map, get}
 use Rattle.o2_world.specs.World.{Process, Reserve, Segment}
 use Rattle.o2_world.specs.Holders.{process_at}
 use Rattle.o2_world.specs.Sound.{held_of as held_by}
-use Rattle.o2_world.specs.Views.{bytes_in, hold_of, holds_in, segment_bytes, view_of}
+use Rattle.o2_world.specs.Views.{bytes_in, discarded_in, hold_of, holds_in, is_discarded, segment_bytes, view_of}
 use Rattle.o2_stands.specs.Parts.{Parts, away_in, away_under, held_in, held_of}
 use Rattle.o2_stands.specs.Stands.{AreLawful, IsNamed, IsSegment, StandsIn}
 use Rattle.o2_stands.specs.Moves.{AreWritten}
@@ -39,6 +39,12 @@ module _ (p : Parts) (lawful : AreLawful p.shelf p.maps) where
   size_by (Some k) None is = absurd is
   size_by None (Some s) is = absurd is
   size_by (Some k) (Some s) is = is.size
+
+  mark_by : (o : Option ℕ) (g : Option Segment) → IsNamed p o g → is_discarded g ≡ gone_under p.shelf o
+  mark_by None None is = refl
+  mark_by (Some k) None is = absurd is
+  mark_by None (Some s) is = absurd is
+  mark_by (Some k) (Some s) is = is.discarded
 
   placed_bytes : (k : ℕ) (s : Segment) → IsSegment p k s → (r : Option (ℕ × ℕ)) → place_of p.shelf k ≡ r
       → s.bytes ≡ (if is_some r then bytes_from p.shelf.memory r (entry p.shelf k).size else away_under p (Some k))
@@ -67,13 +73,13 @@ away_same : (b : Bool) (here away other : List ℕ) → (b ≡ false → away �
 away_same true here away other e = refl
 away_same false here away other e = sym (e refl)
 
-abbrev made : Cpu → (ℕ → Option Hold) → (ℕ → ℕ) → (ℕ → List ℕ) → View
-made c held size bytes = record {
+abbrev made : Cpu → (ℕ → Option Hold) → (ℕ → ℕ) → (ℕ → Bool) → (ℕ → List ℕ) → View
+made c held size discarded bytes = record {
   held = held;
   gate = built_gates;
   size = size;
   present = λ n. true;
-  discarded = λ n. false;
+  discarded = discarded;
   bytes = bytes;
   registers = bound_registers held c;
   rest = no_rest;
@@ -88,6 +94,9 @@ module _ (p : Parts) (ps : List Process) (names : Map Segment) (next : ℕ) (res
   pub name_size : (n : ℕ) → length (bytes_in names n) ≡ size_in p.shelf n
   name_size n = size_by p lawful (key_of p.shelf n) (get names n) (stands.segments n)
 
+  pub name_mark : (n : ℕ) → discarded_in names n ≡ gone_in p.shelf n
+  name_mark n = mark_by p lawful (key_of p.shelf n) (get names n) (stands.segments n)
+
   pub process_holds : (pid : ℕ) (q : Process) → process_at ps pid ≡ Some q → (i : ℕ) → holds_in q.held i ≡ hold_in p.maps pid i
   unfolding held_in hold_in
   process_holds pid q at i =
@@ -98,10 +107,11 @@ module _ (p : Parts) (ps : List Process) (names : Map Segment) (next : ℕ) (res
       → view_of names q ≡ filled p r h f pid q.cpu
   unfolding seen_with
   view_is pid q r h f at fills =
-      ap (λ (held : ℕ → Option Hold). made q.cpu held (λ n. length (bytes_in names n)) (bytes_in names)) (fun_ext (process_holds pid q at))
-      ∙ (ap (λ (size : ℕ → ℕ). made q.cpu (hold_in p.maps pid) size (bytes_in names)) (fun_ext name_size)
-      ∙ ap (λ (bytes : ℕ → List ℕ). made q.cpu (hold_in p.maps pid) (size_in p.shelf) bytes)
-      (fun_ext (λ n. name_bytes n ∙ away_same (present_in p.shelf n) (bytes_there p.shelf n) (h.away n f.blocks) (away_in p n) (fills.away n))))
+      ap (λ (held : ℕ → Option Hold). made q.cpu held (λ n. length (bytes_in names n)) (discarded_in names) (bytes_in names)) (fun_ext (process_holds pid q at))
+      ∙ (ap (λ (size : ℕ → ℕ). made q.cpu (hold_in p.maps pid) size (discarded_in names) (bytes_in names)) (fun_ext name_size)
+      ∙ (ap (λ (discarded : ℕ → Bool). made q.cpu (hold_in p.maps pid) (size_in p.shelf) discarded (bytes_in names)) (fun_ext name_mark)
+      ∙ ap (λ (bytes : ℕ → List ℕ). made q.cpu (hold_in p.maps pid) (size_in p.shelf) (gone_in p.shelf) bytes)
+      (fun_ext (λ n. name_bytes n ∙ away_same (present_in p.shelf n) (bytes_there p.shelf n) (h.away n f.blocks) (away_in p n) (fills.away n)))))
 
   -- a bus shows that, with what no instruction sees
   pub bus_is : (g t : GName) (pid : ℕ) (q : Process) (x : SegmentRegisters) (h : Hidden) → process_at ps pid ≡ Some q → registers_of p.maps pid x ≡ bound_registers (hold_in p.maps pid) q.cpu

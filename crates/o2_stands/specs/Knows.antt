@@ -12,11 +12,10 @@ use Rattle.o2_world.specs.Known.{Known, Marks, text_name}
 use Rattle.o2_stands.specs.Parts.{Parts, goes_on, held_in}
 use Rattle.o2_stands.specs.Stands.{IsIndex, number_of}
 
--- what the store doesn't have: whether a name is code, whether it is marked discarded, the texts' names, how many processes there
--- are, and the number that DosMemAvail gives
+-- what the store doesn't have: whether a name is code, the texts' names, how many processes there are, and the number that
+-- DosMemAvail gives
 pub record Others : Type 0 where
   pub code : ℕ → Bool
-  pub discarded : ℕ → Bool
   pub text : List ℕ → Option ℕ
   pub processes : ℕ
   pub avail : ℕ
@@ -30,7 +29,7 @@ marks_under p o n k = record {
   flags = (entry p.shelf k).attr.flags;
   lock = (entry p.shelf k).attr.lock;
   shared = (entry p.shelf k).attr.shared;
-  discarded = o.discarded n;
+  discarded = (entry p.shelf k).attr.gone;
 }
 
 -- the region of a number, where 0 is the shared one
@@ -56,15 +55,10 @@ abbrev pub code_of : Option Segment → Bool
 code_of None = false
 code_of (Some s) = s.code
 
-abbrev pub discarded_of : Option Segment → Bool
-discarded_of None = false
-discarded_of (Some s) = s.discarded
-
 -- what the store doesn't have of a world
 abbrev pub others_of : Setting → World → Others
 others_of s w = record {
   code = λ n. code_of (get w.names n);
-  discarded = λ n. discarded_of (get w.names n);
   text = text_name w.texts;
   processes = length w.processes;
   avail = s.avail;

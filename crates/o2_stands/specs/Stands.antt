@@ -54,6 +54,7 @@ pub record IsSegment (p : Parts) (k : ℕ) (s : Segment) : Type 0 where
   pub flags : s.flags ≡ (entry p.shelf k).attr.flags
   pub lock : s.lock ≡ (entry p.shelf k).attr.lock
   pub shared : s.shared ≡ (entry p.shelf k).attr.shared
+  pub discarded : s.discarded ≡ (entry p.shelf k).attr.gone
 
 -- under one name: a segment of the world and one of the store, or neither
 abbrev pub IsNamed : Parts → Option ℕ → Option Segment → Type 0

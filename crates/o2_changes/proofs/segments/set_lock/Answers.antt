@@ -1,4 +1,4 @@
-use Rattle.std.proofs.Common.{ap, refl, sym, subst}
+use Rattle.std.proofs.Common.{◌∙◌, ap, refl, sym, subst}
 use Rattle.o2_entries.specs.declared.Attr.{Attr}
 use Rattle.o2_entries.specs.Tables.{slot_at}
 use Rattle.o2_store.specs.Shelf.{entry_of, Shelf}
@@ -11,6 +11,12 @@ use Rattle.o2_changes.proofs.Matching.{lock_matches}
 use Rattle.o2_changes.proofs.Segmenting.{attr_there, locked_order, sets_lock}
 use Rattle.o2_store.specs.Idle.{NoneTaken}
 use Rattle.o2_changes.proofs.segments.set_lock.Goals as goal
+
+pub set_attr-requires-clause-whole : goal.set_attr-requires-clause-whole
+set_attr-requires-clause-whole c =
+    let s = c.args.store.now in
+    let id = c.args.id in
+    ap (λ (a : Attr). a.gone) (attr_there (entry_of s id) c.in-Some.attr (sym c.in-Some.ensures) id.age (slot_at s.entries id.key) refl) ∙ c.requires.whole
 
 pub returns-in-Some : goal.returns-in-Some
 returns-in-Some c =

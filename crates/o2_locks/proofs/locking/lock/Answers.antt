@@ -13,7 +13,7 @@ use Rattle.o2_segs.proofs.Stops.{denied, error_none, room_never, room_stops, sto
 use Rattle.o2_store.proofs.Tables.{locked_at}
 use Rattle.o2_world.specs.Changes.{Locks, with_change}
 use Rattle.o2_segs.proofs.Making.{moved_made}
-use Rattle.o2_locks.proofs.Rows.{lock_done, lock_plain, locked_matches, none_less}
+use Rattle.o2_locks.proofs.Rows.{lock_done, lock_gone, lock_plain, locked_matches, none_less}
 use Rattle.o2_store.specs.Shelf.{Shelf, entry, entry_of, place_of}
 use Rattle.o2_segs.proofs.Sharing.{alive_tables}
 use Rattle.o2_segs.proofs.Limits.{limits_locked, limits_moved, limits_refl, limits_then}
@@ -41,7 +41,7 @@ pub returns-in-Some-stop_of-clause-answer : goal.returns-in-Some-stop_of-clause-
 returns-in-Some-stop_of-clause-answer g c = λ m is.
     (let s = c.args.store.now in
     let at = attr_there (entry_of s c.args.id) c.in-Some.attr (sym c.in-Some.ensures) c.args.id.age (slot_at s.entries c.args.id.key) refl in
-    stop_answers _ c.bring_in.result c.in-Some-stop_of.stop (error_none (lock_done c.args.id.age (entry s c.args.id.key).attr m is (ap (λ (a : Attr). has_bit a.flags 2) (sym at) ∙ sym c.if-not-is_discardable.ensures))) c.in-Some-stop_of.ensures)
+    stop_answers _ c.bring_in.result c.in-Some-stop_of.stop (error_none (lock_done c.args.id.age (entry s c.args.id.key).attr m is (ap (λ (a : Attr). has_bit a.flags 2) (sym at) ∙ sym c.if-not-is_discardable.ensures) (sym c.if-is_discarded.ensures))) c.in-Some-stop_of.ensures)
 
 pub returns-in-Some-stop_of-clause-matches : goal.returns-in-Some-stop_of-clause-matches
 returns-in-Some-stop_of-clause-matches g c = λ m p w is es em ei eb tells q.
@@ -57,7 +57,7 @@ pub returns-in-None-stop_of-clause-answer : goal.returns-in-None-stop_of-clause-
 returns-in-None-stop_of-clause-answer g c = λ m is.
     (let s = c.args.store.now in
     let at = attr_there (entry_of s c.args.id) c.in-Some.attr (sym c.in-Some.ensures) c.args.id.age (slot_at s.entries c.args.id.key) refl in
-    done_answers _ _ 0 c.done-in-None-stop_of.result (lock_done c.args.id.age (entry s c.args.id.key).attr m is (ap (λ (a : Attr). has_bit a.flags 2) (sym at) ∙ sym c.if-not-is_discardable.ensures)) c.done-in-None-stop_of.ensures)
+    done_answers _ _ 0 c.done-in-None-stop_of.result (lock_done c.args.id.age (entry s c.args.id.key).attr m is (ap (λ (a : Attr). has_bit a.flags 2) (sym at) ∙ sym c.if-not-is_discardable.ensures) (sym c.if-is_discarded.ensures)) c.done-in-None-stop_of.ensures)
 
 pub returns-in-None-stop_of-clause-matches : goal.returns-in-None-stop_of-clause-matches
 returns-in-None-stop_of-clause-matches g c = λ m p w is es em ei eb tells q.
@@ -66,7 +66,7 @@ returns-in-None-stop_of-clause-matches g c = λ m p w is es em ei eb tells q.
     locked_matches p w c.set_lock-in-None-stop_of.new.store c.bring_in.new.regions (g.S.SwapDevice.block c.bring_in.new.swap) c.args.id
     (min ((entry s c.args.id.key).attr.lock + 1) 255) c.saturating_add-in-None-stop_of.result (locking_with c.args.id.age (Some m))
     (lock_done c.args.id.age (entry s c.args.id.key).attr m is
-    (ap (λ (a : Attr). has_bit a.flags 2) (sym at) ∙ sym c.if-not-is_discardable.ensures))
+    (ap (λ (a : Attr). has_bit a.flags 2) (sym at) ∙ sym c.if-not-is_discardable.ensures) (sym c.if-is_discarded.ensures))
     (c.saturating_add-in-None-stop_of.ensures ∙ ap (λ (a : Attr). min (a.lock + 1) 255) at)
     (c.set_lock-in-None-stop_of.ensures.matches.world (moved p c.bring_in.new.store c.bring_in.new.regions (g.S.SwapDevice.block c.bring_in.new.swap)) w refl refl (c.bring_in.ensures.matches.world p w es em ei eb tells q)))
 
@@ -86,7 +86,7 @@ pub returns-then-attr-gt0-clause-answer : goal.returns-then-attr-gt0-clause-answ
 returns-then-attr-gt0-clause-answer g c = λ m is.
     (let s = c.args.store.now in
     let at = attr_there (entry_of s c.args.id) c.in-Some.attr (sym c.in-Some.ensures) c.args.id.age (slot_at s.entries c.args.id.key) refl in
-    done_answers _ _ 0 c.done.result (lock_done c.args.id.age (entry s c.args.id.key).attr m is (ap (λ (a : Attr). has_bit a.flags 2) (sym at) ∙ sym c.if-not-is_discardable.ensures)) c.done.ensures)
+    done_answers _ _ 0 c.done.result (lock_done c.args.id.age (entry s c.args.id.key).attr m is (ap (λ (a : Attr). has_bit a.flags 2) (sym at) ∙ sym c.if-not-is_discardable.ensures) (sym c.if-is_discarded.ensures)) c.done.ensures)
 
 pub returns-then-attr-gt0-clause-matches : goal.returns-then-attr-gt0-clause-matches
 returns-then-attr-gt0-clause-matches g c = λ m p w is es em ei eb tells q.
@@ -95,7 +95,7 @@ returns-then-attr-gt0-clause-matches g c = λ m p w is es em ei eb tells q.
     locked_matches p w c.set_lock.new.store c.args.regions.now (g.S.SwapDevice.block c.args.swap.now) c.args.id
     (min ((entry s c.args.id.key).attr.lock + 1) 255) c.saturating_add.result (locking_with c.args.id.age (Some m))
     (lock_done c.args.id.age (entry s c.args.id.key).attr m is
-    (ap (λ (a : Attr). has_bit a.flags 2) (sym at) ∙ sym c.if-not-is_discardable.ensures))
+    (ap (λ (a : Attr). has_bit a.flags 2) (sym at) ∙ sym c.if-not-is_discardable.ensures) (sym c.if-is_discarded.ensures))
     (c.saturating_add.ensures ∙ ap (λ (a : Attr). min (a.lock + 1) 255) at)
     (moved_made p (with_change w (Locks c.args.id.age c.saturating_add.result)) c.set_lock.new.store c.args.regions.now (g.S.SwapDevice.block c.args.swap.now) em eb (c.set_lock.ensures.matches.world p w es em q)))
 
@@ -189,3 +189,32 @@ returns-in-Some-stop_of-clause-device g c = device_for _ _ _ _ _ _ _ (λ e. stop
 
 pub returns-in-None-stop_of-clause-device : goal.returns-in-None-stop_of-clause-device
 returns-in-None-stop_of-clause-device g c = device_for _ _ _ _ _ _ _ (λ e. absurd (cc)) c.bring_in.ensures.device
+
+pub returns-then-is_discarded-clause-answer : goal.returns-then-is_discarded-clause-answer
+returns-then-is_discarded-clause-answer g c = λ m is.
+    (let s = c.args.store.now in
+    let at = attr_there (entry_of s c.args.id) c.in-Some.attr (sym c.in-Some.ensures) c.args.id.age (slot_at s.entries c.args.id.key) refl in
+    refusal_answers _ 157 c.refusal-then-is_discarded.result
+    (lock_gone c.args.id.age (entry s c.args.id.key).attr m is (ap (λ (a : Attr). has_bit a.flags 2) (sym at) ∙ sym c.if-not-is_discardable.ensures) (sym c.if-is_discarded.ensures)) c.refusal-then-is_discarded.ensures)
+
+pub returns-then-is_discarded-clause-matches : goal.returns-then-is_discarded-clause-matches
+returns-then-is_discarded-clause-matches g c = λ m p w is es em ei eb tells q.
+    (let s = c.args.store.now in
+    let at = attr_there (entry_of s c.args.id) c.in-Some.attr (sym c.in-Some.ensures) c.args.id.age (slot_at s.entries c.args.id.key) refl in
+    refusal_moved p s c.args.regions.now _ w _ 157 es em eb
+    (lock_gone c.args.id.age (entry s c.args.id.key).attr m is (ap (λ (a : Attr). has_bit a.flags 2) (sym at) ∙ sym c.if-not-is_discardable.ensures) (sym c.if-is_discarded.ensures)) q)
+
+pub returns-then-is_discarded-clause-always_no_room : goal.returns-then-is_discarded-clause-always_no_room
+returns-then-is_discarded-clause-always_no_room g c = λ u z out l. absurd (denied c.refusal-then-is_discarded.result 157 c.refusal-then-is_discarded.ensures (omega arith) u)
+
+pub returns-then-is_discarded-clause-limits : goal.returns-then-is_discarded-clause-limits
+returns-then-is_discarded-clause-limits g c = limits_refl c.args.store.now c.args.regions.now
+
+pub returns-then-is_discarded-clause-idle : goal.returns-then-is_discarded-clause-idle
+returns-then-is_discarded-clause-idle g c = λ none. inl (record { device = refl; none = none })
+
+pub returns-then-is_discarded-clause-goes_on : goal.returns-then-is_discarded-clause-goes_on
+returns-then-is_discarded-clause-goes_on g c = for_refl c.args.images.now c.args.store.now c.args.regions.now c.requires.order c.requires.backed.clean
+
+pub set_lock-requires-in-None-stop_of-clause-whole : goal.set_lock-requires-in-None-stop_of-clause-whole
+set_lock-requires-in-None-stop_of-clause-whole g c = ap (λ (a : Attr). a.gone) (c.bring_in.ensures.keeps.tables.same c.args.id.key).attr ∙ sym c.if-is_discarded.ensures

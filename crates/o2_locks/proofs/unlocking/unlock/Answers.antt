@@ -6,7 +6,7 @@ use Rattle.o2_store.specs.Shelf.{Shelf, entry, entry_of, place_of}
 use Rattle.o2_store.proofs.Tables.{locked_at}
 use Rattle.o2_changes.proofs.Segmenting.{attr_there}
 use Rattle.o2_segs.proofs.Rows.{done_answers, refusal_answers, refusal_shelf}
-use Rattle.o2_locks.proofs.Rows.{done_matches, positive, unlock_done, unlock_open, unlock_plain}
+use Rattle.o2_locks.proofs.Rows.{done_matches, locked_whole, positive, unlock_done, unlock_open, unlock_plain}
 use Rattle.o2_segs.proofs.Limits.{limits_locked, limits_refl}
 use Rattle.o2_changes.proofs.Framing.{order_refl}
 use Rattle.o2_locks.proofs.unlocking.unlock.Goals as goal
@@ -89,3 +89,9 @@ returns-then-attr-eq0-clause-goes_on c = order_refl c.args.store.now c.args.regi
 
 pub returns-in-None-clause-goes_on : goal.returns-in-None-clause-goes_on
 returns-in-None-clause-goes_on c = order_refl c.args.store.now c.args.regions.now c.requires.order
+
+pub set_lock-requires-clause-whole : goal.set_lock-requires-clause-whole
+set_lock-requires-clause-whole c =
+    let s = c.args.store.now in
+    let at = attr_there (entry_of s c.args.id) c.in-Some.attr (sym c.in-Some.ensures) c.args.id.age (slot_at s.entries c.args.id.key) refl in
+    locked_whole s c.args.id.key c.law.ensures.shelf (subst (λ (a : Attr). 0 < a.lock) at (positive c.in-Some.attr.lock c.if-attr-eq0.false))

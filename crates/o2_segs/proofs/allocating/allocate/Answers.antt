@@ -158,6 +158,11 @@ lock_new-requires-clause-bare g c =
     let e = added_entry c.args.store.now c.make.new.store c.in-Some.id _ c.in-Some.ensures.added in
     (ap (λ (x : Entry). x.image) e, ap (λ (x : Entry). x.kept) e)
 
+pub lock_new-requires-clause-whole : goal.lock_new-requires-clause-whole
+lock_new-requires-clause-whole g c =
+    let e = added_entry c.args.store.now c.make.new.store c.in-Some.id _ c.in-Some.ensures.added in
+    ap (λ (x : Entry). x.attr.gone) e
+
 pub returns-in-Some-lock_new-clause-holds : goal.returns-in-Some-lock_new-clause-holds
 returns-in-Some-lock_new-clause-holds g c = told_holds c.args.regions.now c.lock_new.new.regions c.lock_new.ensures.maps
 

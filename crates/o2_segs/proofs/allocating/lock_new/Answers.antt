@@ -42,6 +42,9 @@ set_lock-requires-clause-live g c = live_same c.args.store.now c.bring_in.new.st
 pub set_lock-requires-clause-present : goal.set_lock-requires-clause-present
 set_lock-requires-clause-present g c = λ l. c.bring_in.ensures.here (was_here c.bring_in.result c.in-None.ensures c.bring_in.ensures.never)
 
+pub set_lock-requires-clause-whole : goal.set_lock-requires-clause-whole
+set_lock-requires-clause-whole g c = ap (λ (a : Attr). a.gone) (c.bring_in.ensures.keeps.tables.same c.args.id.key).attr ∙ c.requires.whole
+
 pub returns-in-None-clause-locked : goal.returns-in-None-clause-locked
 returns-in-None-clause-locked g c = λ e. record {
   world = λ p w sg es em ei eb tells age q.

@@ -1,4 +1,4 @@
-use Rattle.std.proofs.Common.{◌≡◌, ◌<◌, inl, inr, refl, ℕ, Option, IfSome, true, ap, subst, sym, ◌∙◌, IsSome, arith}
+use Rattle.std.proofs.Common.{◌≡◌, ◌<◌, inl, inr, refl, ℕ, ◌/◌, [], Option, IfSome, true, false, ap, subst, sym, ◌∙◌, IsSome, arith}
 use Rattle.o2_changes.proofs.KeepingHolds.{told_holds}
 use Rattle.o2_stands.specs.Knows.{known_in}
 use Rattle.o2_segs.proofs.Resizing.{keeps, realloc_done, realloc_fixed, realloc_kept, realloc_none, refusal_moved, sized_matches, stopped_matches}
@@ -9,7 +9,14 @@ use Rattle.o2_regions.specs.declared.held.Held.{Held}
 use Rattle.o2_store.specs.Loads.{live_load_at}
 use Rattle.o2_store.specs.Shelf.{place_of}
 use Rattle.o2_store.specs.Sizes.{all_wanted_at, stays}
-use Rattle.o2_world.specs.Rulings.{full_size, reallocation}
+use Rattle.o2_segs.specs.Answers.{AnswersRoomed, changes_roomed}
+use Rattle.o2_segs.specs.Remade.{wants_room}
+use Rattle.o2_segs.proofs.Discarded.{gone_wanted, room_wanted, unrefused_any, wanted_room}
+use Rattle.o2_segs.proofs.Selecting.{under_held}
+use Rattle.o2_stands.specs.Moves.{moved}
+use Rattle.o2_stands.specs.Stands.{Matches}
+use Rattle.o2_world.specs.Changes.{with_all}
+use Rattle.o2_world.specs.Rulings.{Ruling, full_size, grants, reallocation, resizes_with}
 use Rattle.o2_segs.proofs.Limits.{limits_moved, limits_refl, limits_sized}
 use Rattle.o2_store.proofs.Idling.{idle_or}
 use Rattle.o2_segs.proofs.Idling.{unrefused_by}
@@ -41,7 +48,7 @@ pub returns-in-Some-stop_of-clause-answer : goal.returns-in-Some-stop_of-clause-
 returns-in-Some-stop_of-clause-answer g c = λ p o es em. stop_answers _ c.resize.result c.in-Some-stop_of.stop
     (error_none (realloc_done p o c.args.store.now c.args.regions.now c.args.pid c.args.size c.args.sel c.in-Some.held es em
     c.requires.caller.named (sym c.in-Some.ensures) (sym c.if-is_fixed.ensures)
-    (ap (keeps c.args.store.now c.in-Some.held.id.key) (sym c.full_size-bytes.ensures.size) ∙ sym c.if-keeps_its_size.ensures)))
+    (ap (keeps c.args.store.now c.in-Some.held.id.key) (sym c.full_size-bytes.ensures.size) ∙ sym c.if-keeps_its_size.ensures) false (sym c.if-is_discarded.ensures)))
     c.in-Some-stop_of.ensures
 
 pub returns-in-Some-stop_of-clause-matches : goal.returns-in-Some-stop_of-clause-matches
@@ -54,7 +61,7 @@ pub returns-in-None-stop_of-clause-answer : goal.returns-in-None-stop_of-clause-
 returns-in-None-stop_of-clause-answer g c = λ p o es em. done_answers _ _ 0 c.done.result
     (realloc_done p o c.args.store.now c.args.regions.now c.args.pid c.args.size c.args.sel c.in-Some.held es em c.requires.caller.named
     (sym c.in-Some.ensures) (sym c.if-is_fixed.ensures)
-    (ap (keeps c.args.store.now c.in-Some.held.id.key) (sym c.full_size-bytes.ensures.size) ∙ sym c.if-keeps_its_size.ensures))
+    (ap (keeps c.args.store.now c.in-Some.held.id.key) (sym c.full_size-bytes.ensures.size) ∙ sym c.if-keeps_its_size.ensures) false (sym c.if-is_discarded.ensures))
     c.done.ensures
 
 pub returns-in-None-stop_of-clause-matches : goal.returns-in-None-stop_of-clause-matches
@@ -62,7 +69,7 @@ returns-in-None-stop_of-clause-matches g c = λ p o w es em ei eb tells q.
     sized_matches p w c.resize.new.store c.resize.new.regions _ c.in-Some.held.id _ _ _
     (realloc_done p o c.args.store.now c.args.regions.now c.args.pid c.args.size c.args.sel c.in-Some.held es em c.requires.caller.named
     (sym c.in-Some.ensures) (sym c.if-is_fixed.ensures)
-    (ap (keeps c.args.store.now c.in-Some.held.id.key) (sym c.full_size-bytes.ensures.size) ∙ sym c.if-keeps_its_size.ensures))
+    (ap (keeps c.args.store.now c.in-Some.held.id.key) (sym c.full_size-bytes.ensures.size) ∙ sym c.if-keeps_its_size.ensures) false (sym c.if-is_discarded.ensures))
     c.full_size-bytes.ensures.size
     ((c.resize.ensures.matches (was_here c.resize.result c.in-None-stop_of.ensures c.resize.ensures.never)).world p w es em ei eb tells q)
 
@@ -76,8 +83,8 @@ pub returns-in-Some-stop_of-clause-no_room : goal.returns-in-Some-stop_of-clause
 returns-in-Some-stop_of-clause-no_room g c = λ e.
     (let s = c.args.store.now in
     let lacks = c.resize.ensures.no_room (stop_room c.resize.result c.in-Some-stop_of.stop c.in-Some-stop_of.ensures e) in
-    subst (λ (y : Option Held). IfSome y (λ h. (stays s h.id.key c.args.keep.now ≡ true) × (s.places.size < all_wanted_at s h.id.key c.args.keep.now (full_size c.args.size)))) c.in-Some.ensures
-    (lacks.1, subst (λ (n : ℕ). s.places.size < all_wanted_at s c.in-Some.held.id.key c.args.keep.now n) c.full_size-bytes.ensures.size lacks.2))
+    subst (λ (y : Option Held). IfSome y (λ h. (wants_room s h.id.key c.args.keep.now ≡ true) × (s.places.size < all_wanted_at s h.id.key c.args.keep.now (full_size c.args.size)))) c.in-Some.ensures
+    (room_wanted s c.in-Some.held.id.key c.args.keep.now lacks.0 lacks.1, subst (λ (n : ℕ). s.places.size < all_wanted_at s c.in-Some.held.id.key c.args.keep.now n) c.full_size-bytes.ensures.size lacks.2))
 
 pub returns-in-Some-stop_of-clause-all_load : goal.returns-in-Some-stop_of-clause-all_load
 returns-in-Some-stop_of-clause-all_load g c = λ e.
@@ -156,10 +163,6 @@ returns-in-Some-stop_of-clause-device g c = device_for _ _ _ _ _ _ _ (λ e. stop
 pub returns-in-None-stop_of-clause-device : goal.returns-in-None-stop_of-clause-device
 returns-in-None-stop_of-clause-device g c = device_for _ _ _ _ _ _ _ (λ e. absurd (cc)) c.resize.ensures.device
 
-pub returns-in-Some-stop_of-clause-present : goal.returns-in-Some-stop_of-clause-present
-returns-in-Some-stop_of-clause-present g c = λ e.
-    subst (λ (y : Option Held). IfSome y (λ h. IsSome (place_of c.args.store.now h.id.key))) c.in-Some.ensures (c.resize.ensures.no_room (stop_room c.resize.result c.in-Some-stop_of.stop c.in-Some-stop_of.ensures e)).0
-
 pub returns-then-is_fixed-clause-always_no_room : goal.returns-then-is_fixed-clause-always_no_room
 returns-then-is_fixed-clause-always_no_room g c = λ u. absurd (denied c.refusal.result 5 c.refusal.ensures (omega arith) u)
 
@@ -170,19 +173,80 @@ pub returns-in-Some-stop_of-clause-always_no_room : goal.returns-in-Some-stop_of
 returns-in-Some-stop_of-clause-always_no_room g c = λ u.
     (let s = c.args.store.now in
     let keep = c.args.keep.now in
-    subst (λ (y : Option Held). IfSome y (λ h. IsSome (place_of s h.id.key) → stays s h.id.key keep ≡ true → s.places.size < all_wanted_at s h.id.key keep (full_size c.args.size) → c.in-Some-stop_of.stop ≡ NoRoom))
+    subst (λ (y : Option Held). IfSome y (λ h. wants_room s h.id.key keep ≡ true → s.places.size < all_wanted_at s h.id.key keep (full_size c.args.size) → c.in-Some-stop_of.stop ≡ NoRoom))
     c.in-Some.ensures
-    (λ i st l. room_stops c.resize.result c.in-Some-stop_of.stop c.in-Some-stop_of.ensures
-    (c.resize.ensures.always_no_room i st (subst (λ (n : ℕ). s.places.size < all_wanted_at s c.in-Some.held.id.key keep n) (sym c.full_size-bytes.ensures.size) l))))
+    (λ wants l. (let both = wanted_room s c.in-Some.held.id.key keep (sym c.if-is_discarded.ensures) wants in
+    room_stops c.resize.result c.in-Some-stop_of.stop c.in-Some-stop_of.ensures
+    (c.resize.ensures.always_no_room both.0 both.1 (subst (λ (n : ℕ). s.places.size < all_wanted_at s c.in-Some.held.id.key keep n) (sym c.full_size-bytes.ensures.size) l)))))
 
 pub returns-in-None-stop_of-clause-always_no_room : goal.returns-in-None-stop_of-clause-always_no_room
 returns-in-None-stop_of-clause-always_no_room g c = λ u.
     (let s = c.args.store.now in
     let keep = c.args.keep.now in
-    subst (λ (y : Option Held). IfSome y (λ h. IsSome (place_of s h.id.key) → stays s h.id.key keep ≡ true → s.places.size < all_wanted_at s h.id.key keep (full_size c.args.size) → Done c.done.result ≡ NoRoom))
+    subst (λ (y : Option Held). IfSome y (λ h. wants_room s h.id.key keep ≡ true → s.places.size < all_wanted_at s h.id.key keep (full_size c.args.size) → Done c.done.result ≡ NoRoom))
     c.in-Some.ensures
-    (λ i st l. absurd (room_never c.resize.result c.in-None-stop_of.ensures
-    (c.resize.ensures.always_no_room i st (subst (λ (n : ℕ). s.places.size < all_wanted_at s c.in-Some.held.id.key keep n) (sym c.full_size-bytes.ensures.size) l)))))
+    (λ wants l. (let both = wanted_room s c.in-Some.held.id.key keep (sym c.if-is_discarded.ensures) wants in
+    absurd (room_never c.resize.result c.in-None-stop_of.ensures
+    (c.resize.ensures.always_no_room both.0 both.1 (subst (λ (n : ℕ). s.places.size < all_wanted_at s c.in-Some.held.id.key keep n) (sym c.full_size-bytes.ensures.size) l))))))
 
 pub returns-in-None-clause-always_no_room : goal.returns-in-None-clause-always_no_room
 returns-in-None-clause-always_no_room g c = λ u. absurd (denied c.refusal-in-None.result 5 c.refusal-in-None.ensures (omega arith) u)
+
+-- A discarded segment is made anew.
+
+pub remake-requires : goal.remake-requires
+remake-requires g c =
+    let id = c.in-Some.held.id in
+    record {
+      live = c.requires.caller.order.held.live c.args.pid (c.args.sel / 8) c.in-Some.held (under_held c.args.regions.now c.args.pid c.args.sel c.in-Some.held (sym c.in-Some.ensures)).1;
+      gone = sym c.if-is_discarded.ensures;
+      sizes = (c.full_size-bytes.ensures.some, c.full_size-bytes.ensures.most);
+      order = c.requires.caller.order;
+      pictures = c.requires.pictures;
+      backed = c.requires.backed;
+    }
+
+pub returns-then-is_discarded : goal.returns-then-is_discarded
+returns-then-is_discarded g c =
+    let s = c.args.store.now in
+    let m = c.args.regions.now in
+    let keep = c.args.keep.now in
+    let id = c.in-Some.held.id in
+    let full = c.full_size-bytes.ensures.size in
+    let r = c.remake.ensures in
+    let gone = sym c.if-is_discarded.ensures in
+    let kept = ap (keeps s id.key) (sym full) ∙ sym c.if-keeps_its_size.ensures in
+    record {
+      answer = λ p o es em.
+          subst (λ (x : Ruling). AnswersRoomed x c.remake.result) (sym (realloc_done p o s m c.args.pid c.args.size c.args.sel c.in-Some.held es em c.requires.caller.named (sym c.in-Some.ensures) (sym c.if-is_fixed.ensures) kept true gone))
+          (r.answer (resizes_with id.age (full_size c.args.size) true));
+      matches = λ p o w es em ei eb tells q.
+          subst (λ (x : Ruling). Matches (moved p c.remake.new.store c.remake.new.regions (g.S.SwapDevice.block c.remake.new.swap)) (with_all w (changes_roomed x c.remake.result)))
+          (sym (realloc_done p o s m c.args.pid c.args.size c.args.sel c.in-Some.held es em c.requires.caller.named (sym c.in-Some.ensures) (sym c.if-is_fixed.ensures) kept true gone))
+          (subst (λ (n : ℕ). Matches (moved p c.remake.new.store c.remake.new.regions (g.S.SwapDevice.block c.remake.new.swap)) (with_all w (changes_roomed (grants 0 (resizes_with id.age n true)) c.remake.result))) full
+          (r.matches p w es em ei eb tells q));
+      holds = told_holds m c.remake.new.regions r.maps;
+      limits = r.limits;
+      goes_on = r.goes_on;
+      device = r.device;
+      kept = r.kept;
+      no_room = λ e.
+          subst (λ (y : Option Held). IfSome y (λ h. (wants_room s h.id.key keep ≡ true) × (s.places.size < all_wanted_at s h.id.key keep (full_size c.args.size)))) c.in-Some.ensures
+          (gone_wanted s id.key keep gone, subst (λ (n : ℕ). s.places.size < all_wanted_at s id.key keep n) full (r.no_room e));
+      always_no_room = λ u.
+          subst (λ (y : Option Held). IfSome y (λ h. wants_room s h.id.key keep ≡ true → s.places.size < all_wanted_at s h.id.key keep (full_size c.args.size) → c.remake.result ≡ NoRoom)) c.in-Some.ensures
+          (λ wants l. r.always_no_room (subst (λ (n : ℕ). s.places.size < all_wanted_at s id.key keep n) (sym full) l));
+      all_load = λ e.
+          subst (λ (y : Option Held). IfSome y (λ h. s.places.size < live_load_at s h.id.key (full_size c.args.size))) c.in-Some.ensures
+          (subst (λ (n : ℕ). s.places.size < live_load_at s id.key n) full (r.loads e).1);
+      load = λ e. (r.loads e).0;
+      idle = λ none.
+          elim (idle_or _ s c.remake.new.store _ _ r.idle none) [
+            | inl i ↦ inl i
+            | inr more ↦ inr (
+              unrefused_any c.remake.result (r.answer []),
+              subst (λ (y : Option Held). IfSome y (λ h. s.places.size < live_load_at s h.id.key (full_size c.args.size))) c.in-Some.ensures
+                  (subst (λ (n : ℕ). s.places.size < live_load_at s id.key n) full more),
+            )
+          ];
+    }
