@@ -48,19 +48,20 @@ pub record IsSeen (v : View) (s : ℕ) (present : Bool) : Type 0 where
   pub found_it : found v s ≡ Some hold
   pub readable : is_readable hold.rights ≡ true
   pub at_hand : v.present hold.name ≡ present
+  pub whole : v.discarded hold.name ≡ false
 
-done_here : (v : View) (s : ℕ) (h : Hold) (d p : Bool) → found v s ≡ Some h → is_readable h.rights ≡ true → v.present h.name ≡ p
+done_here : (v : View) (s : ℕ) (h : Hold) (d p : Bool) → found v s ≡ Some h → is_readable h.rights ≡ true → v.discarded h.name ≡ d → v.present h.name ≡ p
     → loaded.Done ≡ cond d (trap_of 11 s) (cond p loaded.Done (loaded.Miss (selector s))) → IsSeen v s true
-done_here v s h true p found_it readable at_hand e = absurd (cc)
-done_here v s h false true found_it readable at_hand e = record { hold = h; found_it = found_it; readable = readable; at_hand = at_hand }
-done_here v s h false false found_it readable at_hand e = absurd (cc)
+done_here v s h true p found_it readable whole at_hand e = absurd (cc)
+done_here v s h false true found_it readable whole at_hand e = record { hold = h; found_it = found_it; readable = readable; at_hand = at_hand; whole = whole }
+done_here v s h false false found_it readable whole at_hand e = absurd (cc)
 
 done_hold : (v : View) (s : ℕ) (o : Option Hold) → found v s ≡ o → loaded.Done ≡ when v 11 s is_readable o → IsSeen v s true
 done_hold v s None found_it e = absurd (cc)
 done_hold v s (Some h) found_it e = go (is_readable h.rights) refl e
   where
     go : (r : Bool) → is_readable h.rights ≡ r → loaded.Done ≡ cond r (here v 11 s h) (refused s) → IsSeen v s true
-    go true readable e = done_here v s h (v.discarded h.name) (v.present h.name) found_it readable refl e
+    go true readable e = done_here v s h (v.discarded h.name) (v.present h.name) found_it readable refl refl e
     go false readable e = absurd (cc)
 
 pub done_seen : (v : View) (s : ℕ) → is_null s ≡ false → loaded.Done ≡ probe_of v DataReg (selector s) → IsSeen v s true
@@ -71,19 +72,19 @@ pub record IsUnseen (v : View) (s : ℕ) (t : Selector) : Type 0 where
   pub same : t ≡ selector s
   pub seen : IsSeen v s false
 
-miss_here : (v : View) (s : ℕ) (t : Selector) (h : Hold) (d p : Bool) → found v s ≡ Some h → is_readable h.rights ≡ true → v.present h.name ≡ p
+miss_here : (v : View) (s : ℕ) (t : Selector) (h : Hold) (d p : Bool) → found v s ≡ Some h → is_readable h.rights ≡ true → v.discarded h.name ≡ d → v.present h.name ≡ p
     → loaded.Miss t ≡ cond d (trap_of 11 s) (cond p loaded.Done (loaded.Miss (selector s))) → IsUnseen v s t
-miss_here v s t h true p found_it readable at_hand e = absurd (cc)
-miss_here v s t h false true found_it readable at_hand e = absurd (cc)
-miss_here v s t h false false found_it readable at_hand e =
-    let same : t ≡ selector s = cc in record { same = same; seen = record { hold = h; found_it = found_it; readable = readable; at_hand = at_hand } }
+miss_here v s t h true p found_it readable whole at_hand e = absurd (cc)
+miss_here v s t h false true found_it readable whole at_hand e = absurd (cc)
+miss_here v s t h false false found_it readable whole at_hand e =
+    let same : t ≡ selector s = cc in record { same = same; seen = record { hold = h; found_it = found_it; readable = readable; at_hand = at_hand; whole = whole } }
 
 miss_hold : (v : View) (s : ℕ) (t : Selector) (o : Option Hold) → found v s ≡ o → loaded.Miss t ≡ when v 11 s is_readable o → IsUnseen v s t
 miss_hold v s t None found_it e = absurd (cc)
 miss_hold v s t (Some h) found_it e = go (is_readable h.rights) refl e
   where
     go : (r : Bool) → is_readable h.rights ≡ r → loaded.Miss t ≡ cond r (here v 11 s h) (refused s) → IsUnseen v s t
-    go true readable e = miss_here v s t h (v.discarded h.name) (v.present h.name) found_it readable refl e
+    go true readable e = miss_here v s t h (v.discarded h.name) (v.present h.name) found_it readable refl refl e
     go false readable e = absurd (cc)
 
 pub miss_seen : (v : View) (s : ℕ) (t : Selector) → is_null s ≡ false → loaded.Miss t ≡ probe_of v DataReg (selector s) → IsUnseen v s t
@@ -197,8 +198,8 @@ module _ (v : View) (p : Pointer) where
 
   -- it isn't present
   pub misses : (p.count == 0) ≡ false → is_for_es v p.selector ≡ true → (h : Hold) → found v p.selector ≡ Some h → bound_in v.held p.selector ≡ Some h
-      → v.present h.name ≡ false → (f : Filling) → IsMissed v (selector p.selector) (pointed (boundless f v) (p ∷ []))
-  misses some es h found_it is absent f = record { hold = h; found_it = found_it; absent = absent; named = named }
+      → v.present h.name ≡ false → v.discarded h.name ≡ false → (f : Filling) → IsMissed v (selector p.selector) (pointed (boundless f v) (p ∷ []))
+  misses some es h found_it is absent kept f = record { hold = h; found_it = found_it; absent = absent; whole = kept; named = named }
     where
       first : (n : ℕ) (rest : List ℕ) → is_in n (n ∷ rest) ≡ true
       first n rest = grind arith
@@ -343,6 +344,7 @@ module _ (v : View) (p : View → Pointer) (qs : Pointers) where
           hold = m.hold;
           found_it = m.found_it;
           absent = m.absent;
+          whole = m.whole;
           named = names_behind m.hold.name (boundless f v) (p (boundless f v)) (qs (boundless f v)) ((p (boundless f v)).count == 0) (x.good f) m.named;
         };
   }
@@ -370,6 +372,7 @@ module _ (v : View) (p : View → Pointer) (qs : Pointers) where
           hold = m.hold;
           found_it = m.found_it;
           absent = m.absent;
+          whole = m.whole;
           named = names_first m.hold.name w (p w) (qs w) ((p w).count == 0) (bound_in v.held (p w).selector) m.named;
         };
   }

@@ -72,7 +72,7 @@ in_front n (x ∷ xs) ys e = go (x == n) (in_front n xs ys) e
     go false later e = later e
 
 missed_front : (v : View) (s : Selector) (xs ys : List ℕ) → IsMissed v s xs → IsMissed v s (xs ++ ys)
-missed_front v s xs ys m = record { hold = m.hold; found_it = m.found_it; absent = m.absent; named = in_front m.hold.name xs ys m.named }
+missed_front v s xs ys m = record { hold = m.hold; found_it = m.found_it; absent = m.absent; whole = m.whole; named = in_front m.hold.name xs ys m.named }
 
 module _ (v : View) (c : Cpu) (service next number : ℕ) (f : Filling) (bound : IsBound v) (input : List ℕ) (known : Known) (x : Row) (e : IsRowOf (row_of service) (Some x)) where
   abbrev b : Before

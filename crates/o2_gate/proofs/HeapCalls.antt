@@ -1,5 +1,5 @@
 -- A call on a heap by its row, and the names behind its pointers and its heap.
-use Rattle.std.proofs.Common.{◌≡◌, ℕ, ◌≤◌, ◌==◌, ◌||◌, Bool, true, false, cond, List, [], ◌∷◌, ◌++◌, drop, Some, ap, sym, ◌∙◌, refl, subst}
+use Rattle.std.proofs.Common.{◌≡◌, ℕ, ◌≤◌, ◌==◌, ◌||◌, Bool, true, false, cond, List, [], ◌∷◌, ◌++◌, drop, Option, Some, ap, sym, ◌∙◌, refl, subst}
 use Rattle.std.proofs.lemmas.List.{append-nil}
 use Rattle.std.specs.Prelude.{Result}
 use Rattle.o2_base.specs.declared.selector.Selector.{Selector}
@@ -12,7 +12,7 @@ use Rattle.o2_world.specs.Outcomes.{CallRow, Fails, Outcome, come_out}
 use Rattle.o2_world.specs.Slots.{may_have_heap, pointers_in, targets_in, words_in}
 use Rattle.o2_world.specs.declared.types.Slot.{Slot}
 use Rattle.o2_world.specs.declared.types.Slot.TheVariants.{Heap}
-use Rattle.o2_run.specs.Pieces.{Counts, PartHands, SinkHands}
+use Rattle.o2_run.specs.Pieces.{counts, told_counts, LineHands, PartHands}
 use Rattle.o2_run.specs.Room.{pointed}
 use Rattle.o2_run.specs.declared.fault.Fault.{Fault}
 use Rattle.o2_gate.specs.declared.called.Called.{Called}
@@ -23,6 +23,7 @@ use Rattle.o2_gate.specs.Heaps.{IsHeapMissed, IsHeapThere, IsNoHeap, behind_heap
 use Rattle.o2_gate.specs.Pointed.{ArePresent, IsGoodTest, are_ready}
 use Rattle.o2_gate.specs.Replies.{FitsIn}
 use Rattle.o2_gate.specs.Rows.{IsRow}
+use Rattle.o2_gate.proofs.Fails.{HasFront, OnSink, only_line}
 use Rattle.o2_gate.proofs.Heaps.{IsByHeap, by_heap_row, no_heaped}
 
 -- The row.
@@ -85,16 +86,19 @@ module _ (service : ℕ) (late : is_heap_call service ≡ true) (x : Row) (r : C
       ∙ ap (by_heap x.slots.now b) (sym e)
 
   -- its line is one put, and there is no piece
-  pub heap_part : (b : Before) (next : ℕ) (a : ℕ → ℕ) (n : Counts) (q : Result Called Fault) → SinkHands 0 1 n q → PartHands (come_out r b next a (r.outcome b a)) n q
+  pub heap_part : (b : Before) (next : ℕ) (a : ℕ → ℕ) (k y z : ℕ) (t u : Option (List ℕ)) (q : Result Called Fault) → OnSink q (HasFront t u (come_out r b next a (r.outcome b a)).lines)
+      → LineHands (counts k k y z 0) q → PartHands (come_out r b next a (r.outcome b a)) (told_counts k k y z 0 t u) q
   unfolding moved_lines
-  heap_part b next a n q e =
+  heap_part b next a k y z t u q =
       let m = ruling_by service a (heap_bytes b (a (words_in tail))) in
-      subst (λ (o : Outcome). PartHands (come_out r b next a o) n q) (sym (outcome_is b a)) (go m (may_have_heap b.view (a (words_in tail))) (m.error == 0))
+      subst (λ (o : Outcome). OnSink q (HasFront t u (come_out r b next a o).lines) → LineHands (counts k k y z 0) q → PartHands (come_out r b next a o) (told_counts k k y z 0 t u) q)
+      (sym (outcome_is b a)) (go m (may_have_heap b.view (a (words_in tail))) (m.error == 0))
     where
-      go : (m : HeapRuling) (c d : Bool) → PartHands (come_out r b next a (cond c (cond d (done_by x.slots.now b m) (Fails m.error [])) (Fails 315 []))) n q
-      go m true true = e
-      go m true false = e
-      go m false d = e
+      go : (m : HeapRuling) (c d : Bool) → OnSink q (HasFront t u (come_out r b next a (cond c (cond d (done_by x.slots.now b m) (Fails m.error [])) (Fails 315 []))).lines) → LineHands (counts k k y z 0) q
+          → PartHands (come_out r b next a (cond c (cond d (done_by x.slots.now b m) (Fails m.error [])) (Fails 315 []))) (told_counts k k y z 0 t u) q
+      go m true true = only_line (come_out r b next a (cond true (cond true (done_by x.slots.now b m) (Fails m.error [])) (Fails 315 []))) k y z t u q refl refl
+      go m true false = only_line (come_out r b next a (cond true (cond false (done_by x.slots.now b m) (Fails m.error [])) (Fails 315 []))) k y z t u q refl refl
+      go m false d = only_line (come_out r b next a (cond false (cond d (done_by x.slots.now b m) (Fails m.error [])) (Fails 315 []))) k y z t u q refl refl
 
 -- The names.
 
@@ -122,6 +126,7 @@ module _ (v : View) (slots : List Slot) (a : ℕ → ℕ) (s : ℕ) (test : IsGo
         hold = x.hold;
         found_it = x.found_it;
         absent = x.absent;
+        whole = x.whole;
         named = in_behind x.hold.name (pointed (boundless f v) (pointers_in slots (boundless f v) a)) _ x.named;
       }
 

@@ -246,11 +246,12 @@ heap_missed v s t some written miss =
     let bound = found_bound v s h some seen.found_it in
     let writable : is_writable h.rights ≡ true = sym (ap is_for_writing seen.found_it) ∙ written in
     subst (λ (x : Selector). IsHeapMissed v s x) (sym u.same) (record {
-      away = record { hold = h; found_it = seen.found_it; absent = seen.at_hand };
+      away = record { hold = h; found_it = seen.found_it; absent = seen.at_hand; whole = seen.whole };
       named = λ f. record {
         hold = h;
         found_it = seen.found_it;
         absent = seen.at_hand;
+        whole = seen.whole;
         named = subst (λ (ns : List ℕ). is_in h.name ns ≡ true)
             (sym (heaped_at (boundless f v) s h (may_be f v s h (sym (ap is_passed miss)) bound writable) bound)) (is_alone h.name);
       };

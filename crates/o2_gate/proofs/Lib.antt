@@ -14,6 +14,7 @@ pub mod Agree
 pub mod Gathered
 pub mod Asks
 pub mod Inputs
+pub mod Fails
 pub mod Puts
 pub mod Takes
 pub mod Lines

@@ -1,5 +1,5 @@
 -- The calls that are made over the bus: how they come out, and their line.
-use Rattle.std.proofs.Common.{◌≡◌, ℕ, ◌==◌, Bool, true, false, cond, List, [], ◌∷◌, take, drop, Option, ap, ◌∙◌, subst, if◌then◌else◌}
+use Rattle.std.proofs.Common.{◌≡◌, ℕ, ◌==◌, Bool, true, false, cond, List, [], ◌∷◌, take, drop, Option, ap, ◌∙◌, refl, subst, if◌then◌else◌}
 use Rattle.std.proofs.lemmas.List.{append-nil}
 use Rattle.std.specs.Prelude.{Result}
 use Rattle.o2_outer.specs.declared.sink.Put.{Put}
@@ -16,13 +16,14 @@ use Rattle.o2_world.specs.Slots.{shown_in, values_in}
 use Rattle.o2_world.specs.Text.{line_text, lines_text}
 use Rattle.o2_world.specs.World.{Calls, Line}
 use Rattle.o2_run.specs.declared.fault.Fault.{Fault}
-use Rattle.o2_run.specs.Pieces.{Counts, SinkHands, PartHands}
+use Rattle.o2_run.specs.Pieces.{counts, told_counts, LineHands, PartHands}
 use Rattle.o2_gate.specs.declared.arguments.Arguments.{Arguments}
 use Rattle.o2_gate.specs.Given.{word_in}
 use Rattle.o2_gate.specs.Replies.{call_line}
 use Rattle.o2_gate.specs.Targets.{name_of, slots_of}
 use Rattle.o2_gate.specs.declared.called.Called.{Called}
 use Rattle.o2_gate.specs.Overs.{got_bytes, wrote}
+use Rattle.o2_gate.proofs.Fails.{HasFront, OnSink, only_line}
 
 pub slots_line : (number : ℕ) (name : List ℕ) (a : ℕ → ℕ) (error : ℕ) (values : List Argument) {ss ts : List Slot} → ss ≡ ts → (r q : Option (List ℕ)) (p : Put)
     → Takes r q (lines_text (Calls number name (shown_in ss a) error values ∷ [])) p → Takes r q (lines_text (Calls number name (shown_in ts a) error values ∷ [])) p
@@ -45,13 +46,15 @@ module _ (b : Before) (a : ℕ → ℕ) where
   writing_done e = ap (λ (c : Bool). cond c (wrote b a) (Fails 6 (shown.Word (a 2) ∷ []))) e
 
   -- a DosRead has one line, and no piece
-  pub read_part : (name : List ℕ) (next : ℕ) (n : Counts) (r : Result Called Fault) → SinkHands 0 1 n r → PartHands (come_out (row name read_slots reading) b next a (reading b a)) n r
+  pub read_part : (name : List ℕ) (next k x y : ℕ) (t u : Option (List ℕ)) (r : Result Called Fault) → OnSink r (HasFront t u (come_out (row name read_slots reading) b next a (reading b a)).lines)
+      → LineHands (counts k k x y 0) r → PartHands (come_out (row name read_slots reading) b next a (reading b a)) (told_counts k k x y 0 t u) r
   unfolding moved_lines
-  read_part name next n r e = go (a 5 == 0)
+  read_part name next k x y t u r = go (a 5 == 0)
     where
-      go : (c : Bool) → PartHands (come_out (row name read_slots reading) b next a (cond c (got_bytes (take (a 2) b.input) (drop (a 2) b.input)) (Fails 6 (shown.Word 0 ∷ [])))) n r
-      go true = e
-      go false = e
+      go : (c : Bool) → OnSink r (HasFront t u (come_out (row name read_slots reading) b next a (cond c (got_bytes (take (a 2) b.input) (drop (a 2) b.input)) (Fails 6 (shown.Word 0 ∷ [])))).lines) → LineHands (counts k k x y 0) r
+          → PartHands (come_out (row name read_slots reading) b next a (cond c (got_bytes (take (a 2) b.input) (drop (a 2) b.input)) (Fails 6 (shown.Word 0 ∷ [])))) (told_counts k k x y 0 t u) r
+      go true = only_line (come_out (row name read_slots reading) b next a (cond true (got_bytes (take (a 2) b.input) (drop (a 2) b.input)) (Fails 6 (shown.Word 0 ∷ [])))) k x y t u r refl refl
+      go false = only_line (come_out (row name read_slots reading) b next a (cond false (got_bytes (take (a 2) b.input) (drop (a 2) b.input)) (Fails 6 (shown.Word 0 ∷ [])))) k x y t u r refl refl
 
 -- The line of a call on segments, and those behind it.
 

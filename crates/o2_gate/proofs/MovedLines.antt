@@ -1,10 +1,16 @@
 -- The lines of what came or went by a call, as far as a loop has come.
-use Rattle.std.proofs.Common.{◌≡◌, false, ℕ, zero, suc, ◌+◌, ◌-◌, ◌<◌, ◌≤◌, List, [], ◌∷◌, ◌++◌, length, take, drop, get_or, ap, subst, sym, ◌∙◌, refl, arith, append-nil, append_assoc, length-append}
+use Rattle.std.proofs.Common.{◌≡◌, false, ℕ, zero, suc, ◌+◌, ◌-◌, ◌<◌, ◌≤◌, List, [], ◌∷◌, ◌++◌, length, take, drop, get_or, Option, ap, subst, sym, ◌∙◌, refl, arith, append-nil, append_assoc, length-append}
 use Rattle.std.proofs.lemmas.Grind.{flat_map-append}
-use Rattle.std.proofs.lemmas.List.{take-append-drop, take_all}
+use Rattle.std.proofs.lemmas.List.{length-replicate, take-append-drop, take_all}
 use Rattle.std.proofs.lemmas.List.Folds.{length-flat_map-take}
 use Rattle.std.proofs.Math.Seq.{take-suc}
 use Rattle.std.specs.Prelude.{flat_map, replicate}
+use Rattle.o2_outer.specs.declared.sink.Put.{Put}
+use Rattle.o2_outer.specs.declared.sink.Put.TheVariants.{Done, Failed}
+use Rattle.o2_outer.specs.Answers.{OnFailed}
+use Rattle.o2_outer.specs.Texts.{Gains, GainsSome, IsPrefix}
+use Rattle.o2_run.specs.Pieces.{FailsInLine}
+use Rattle.o2_run.proofs.FailedLines.{fails_before, fails_behind, fails_first}
 use Rattle.o2_world.specs.Rulings.{indexes}
 use Rattle.o2_world.specs.Text.{line_text, lines_text}
 use Rattle.o2_world.specs.World.{Line}
@@ -37,6 +43,15 @@ module _ {X : Type 0} (f : X → List Line) (xs : List X) (k : ℕ) (d : X) (les
       ∙ ap (λ (t : List ℕ). t ++ lines_text (flat_map f (drop (k + 1) xs))) text_more
       ∙ append_assoc (lines_text (flat_map f (take k xs))) (lines_text (f (get_or xs k d))) (lines_text (flat_map f (drop (k + 1) xs)))
 
+  -- a line of this item failed
+  pub item_fails : (r m q : Option (List ℕ)) (before mid now : ℕ) → Gains r m (lines_text (flat_map f (take k xs))) → mid ≡ before + length (flat_map f (take k xs))
+      → FailsInLine (f (get_or xs k d)) m q mid now → FailsInLine (flat_map f xs) r q before now
+  item_fails r m q before mid now put count fails =
+      subst (λ (ls : List Line). FailsInLine ls r q before now) (sym (whole ∙ ap (λ (ls : List Line). ls ++ flat_map f (drop (k + 1) xs)) more))
+      (fails_before (flat_map f (take k xs) ++ f (get_or xs k d)) (flat_map f (drop (k + 1) xs)) r q before now
+      (fails_behind (flat_map f (take k xs)) (f (get_or xs k d)) r m q before mid now put count fails))
+
+-- One line again and again.
 pub times_split : (n k : ℕ) (l : Line) → k < n → lines_text (replicate n l) ≡ lines_text (replicate k l) ++ (lines_text (l ∷ []) ++ lines_text (replicate (n - (k + 1)) l))
 times_split zero k l less = absurd (omega (arith, less))
 times_split (suc n) zero l less =
@@ -48,6 +63,28 @@ times_split (suc n) (suc k) l less =
     ap (λ (t : List ℕ). line_text l ++ t) (times_split n k l (omega (arith, less)))
     ∙ sym (append_assoc (line_text l) (lines_text (replicate k l)) (lines_text (l ∷ []) ++ lines_text (replicate (n - (k + 1)) l)))
     ∙ ap (λ (m : ℕ). lines_text (replicate (suc k) l) ++ (lines_text (l ∷ []) ++ lines_text (replicate m l))) rest
+
+times_list : (n k : ℕ) (l : Line) → k < n → replicate n l ≡ replicate k l ++ (l ∷ replicate (n - (k + 1)) l)
+times_list zero k l less = absurd (omega (arith, less))
+times_list (suc n) zero l less = let rest : n ≡ suc n - (0 + 1) = omega arith in ap (λ (m : ℕ). l ∷ replicate m l) rest
+times_list (suc n) (suc k) l less =
+    let rest : n - (k + 1) ≡ suc n - (suc k + 1) = omega arith in
+    ap (λ (ls : List Line). l ∷ ls) (times_list n k l (omega (arith, less)))
+    ∙ ap (λ (m : ℕ). replicate (suc k) l ++ (l ∷ replicate m l)) rest
+
+-- one of them failed
+pub times_fails : (n k : ℕ) (l : Line) → k < n → (r m q : Option (List ℕ)) (before mid now : ℕ) → Gains r m (lines_text (replicate k l)) → mid ≡ before + k
+    → GainsSome m q (λ front. IsPrefix front (lines_text (l ∷ []))) → now ≡ mid + 1 → FailsInLine (replicate n l) r q before now
+times_fails n k l less r m q before mid now put count front one =
+    subst (λ (ls : List Line). FailsInLine ls r q before now) (sym (times_list n k l less))
+    (fails_behind (replicate k l) (l ∷ replicate (n - (k + 1)) l) r m q before mid now put (count ∙ ap (λ (i : ℕ). before + i) (sym (length-replicate k l)))
+    (fails_first l (replicate (n - (k + 1)) l) m q mid now front one))
+
+-- the first line failed, or one behind it
+pub reply_fails : (l : Line) (rest : List Line) (r m q : Option (List ℕ)) (before mid now : ℕ) (p : Put) → Gains r m (lines_text (l ∷ [])) → mid ≡ before + 1
+    → OnFailed p (FailsInLine rest m q mid now) → OnFailed p (FailsInLine (l ∷ rest) r q before now)
+reply_fails l rest r m q before mid now Done put one h = tt
+reply_fails l rest r m q before mid now Failed put one h = fails_behind (l ∷ []) rest r m q before mid now put one h
 
 -- The indexes of a block.
 pub indexes_length : (first n : ℕ) → length (indexes first n) ≡ n
@@ -89,6 +126,11 @@ module _ (cause : List ℕ) (b : Block) (k : ℕ) (less : k < b.count) where
   block_split =
       text_split (lines_at cause b) is k 0 within
       ∙ ap (λ (i : ℕ). lines_text (flat_map (lines_at cause b) (take k is)) ++ (lines_text (lines_at cause b i) ++ lines_text (flat_map (lines_at cause b) (drop (k + 1) is)))) at
+
+  pub block_fails : (r m q : Option (List ℕ)) (before mid now : ℕ) → Gains r m (lines_text (flat_map (lines_at cause b) (take k is))) → mid ≡ before + length (flat_map (lines_at cause b) (take k is))
+      → FailsInLine (lines_at cause b (b.index + k)) m q mid now → FailsInLine (flat_map (lines_at cause b) is) r q before now
+  block_fails r m q before mid now put count fails =
+      item_fails (lines_at cause b) is k 0 within r m q before mid now put count (subst (λ (i : ℕ). FailsInLine (lines_at cause b i) m q mid now) (sym at) fails)
 
   pub block_count : length (flat_map (lines_at cause b) (take (k + 1) is)) ≡ length (flat_map (lines_at cause b) (take k is)) + length (lines_at cause b (b.index + k))
   block_count =

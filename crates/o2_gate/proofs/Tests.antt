@@ -70,6 +70,6 @@ module _ (v : View) (writes : Bool) (s o n : ℕ) where
         let u = miss_seen v s t null_not miss in
         let seen = u.seen in
         subst (λ (x : Selector). IsMissedTest v x (only (pointer writes s o n))) (sym u.same) (record {
-          away = record { hold = seen.hold; found_it = seen.found_it; absent = seen.at_hand };
-          missed = λ f. misses v (pointer writes s o n) some (sym (ap is_passed miss)) seen.hold seen.found_it (found_bound v s seen.hold null_not seen.found_it) seen.at_hand f;
+          away = record { hold = seen.hold; found_it = seen.found_it; absent = seen.at_hand; whole = seen.whole };
+          missed = λ f. misses v (pointer writes s o n) some (sym (ap is_passed miss)) seen.hold seen.found_it (found_bound v s seen.hold null_not seen.found_it) seen.at_hand seen.whole f;
         })

@@ -7,7 +7,7 @@ use Rattle.o2_gate.specs.declared.called.Called.{Called}
 use Rattle.o2_gate.specs.declared.called.Called.TheVariants.{Back, Exited, Trap, Missed, Asked, Waits}
 
 -- one line, and a piece for the console where it has bytes; two lines for an exit, and nothing for an exception, a miss, a
--- stop, or a call that is asked for or waits. What a sink's fault leaves is SinkHands
+-- stop, or a call that is asked for or waits. What a sink's fault leaves is PartHands
 abbrev pub CallHands : Counts → Result Called Fault → Type 0
 CallHands n (Ok (Back bytes)) = Hands n (puts_of bytes) 1
 CallHands n (Ok (Exited code)) = Hands n 0 2

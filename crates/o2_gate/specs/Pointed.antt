@@ -54,11 +54,12 @@ pub record IsBadTest (v : View) (ps : Pointers) : Type 0 where
   pub good : (f : Filling) → are_good (boundless f v) (ps (boundless f v)) ≡ false
   pub names : (f : Filling) → ArePresent v (pointed (boundless f v) (ps (boundless f v)))
 
--- the selector names a segment that isn't present
+-- the selector names a segment that isn't present, and wasn't discarded
 pub record IsAway (v : View) (s : Selector) : Type 0 where
   pub hold : Hold
   pub found_it : found v s.0 ≡ Some hold
   pub absent : v.present hold.name ≡ false
+  pub whole : v.discarded hold.name ≡ false
 
 pub record IsMissedTest (v : View) (s : Selector) (ps : Pointers) : Type 0 where
   pub away : IsAway v s

@@ -12,7 +12,8 @@ ghost use Rattle.o2_gate.specs.Befores.{boundless, before_call};
 ghost use Rattle.o2_gate.specs.Called.{Does, OnUndone};
 ghost use Rattle.o2_run.specs.Faults.{Caused};
 ghost use Rattle.o2_gate.specs.Pieces.{CallHands};
-ghost use Rattle.o2_run.specs.Pieces.{counts, SinkHands};
+ghost use Rattle.o2_run.specs.Pieces.{counts, told_counts, FailsInLine, PartHands};
+ghost use Rattle.o2_world.specs.Calls.{Effect};
 
 use crate::Called;
 use o2_outer::{Put, Sink};
@@ -23,6 +24,8 @@ use o2_run::Fault;
 fn put_exit<R: Sink>(line: &mut LineBuffer, pid: u16, action: u16, code: u16, report: &mut R) -> Put
     ensures report { Takes (R.taken report.old) (R.taken report.new) (lines_text (Exits pid action code ∷ Ends pid code ∷ [])) result }
     ensures puts { Puts (R.puts report.old) (R.puts report.new) 2 result }
+    ensures line { OnFailed result (FailsInLine (Exits pid action code ∷ Ends pid code ∷ [])
+        (R.taken report.old) (R.taken report.new) (R.puts report.old) (R.puts report.new)) }
     ensures count { R.faults report.old ≤ R.faults report.new }
     ensures cause { OnFailed result (Rose (R.faults report.old) (R.faults report.new)) }
 {
@@ -54,7 +57,8 @@ pub(crate) fn exit<R: Sink>(
     ensures over { OnUndone result ⊥ }
     // Each line is one put.
     ensures puts { (c : ℕ) → CallHands (counts c c (R.puts report.old) (R.puts report.new) 0) result }
-    ensures part { (c : ℕ) → SinkHands 0 2 (counts c c (R.puts report.old) (R.puts report.new) 0) result }
+    ensures part { (e : Effect) (c : ℕ) → e.piece ≡ [] → e.lines ≡ Exits pid action code ∷ Ends pid code ∷ []
+        → PartHands e (told_counts c c (R.puts report.old) (R.puts report.new) 0 (R.taken report.old) (R.taken report.new)) result }
 {
     match put_exit(line, pid, action, code, report) {
         Put::Failed => Err(Fault::Sink),

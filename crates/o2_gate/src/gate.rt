@@ -21,7 +21,7 @@ ghost use Rattle.o2_gate.specs.Targets.{targets};
 ghost use Rattle.o2_run.specs.Room.{call_names, pointed};
 ghost use Rattle.o2_run.specs.Faults.{Caused};
 ghost use Rattle.o2_gate.specs.Pieces.{CallHands};
-ghost use Rattle.o2_run.specs.Pieces.{counts, PartHands};
+ghost use Rattle.o2_run.specs.Pieces.{counts, told_counts, PartHands};
 
 use crate::ask::ask;
 use crate::exit::exit;
@@ -87,7 +87,8 @@ fn serve_early<B: Ranges, C: Sink, R: Sink>(
     ensures part { (f : Filling) (bytes : List ℕ) (known : Known) (r : CallRow) → known.avail ≡ avail → row_there service ≡ Some r
         → let b = before_call (boundless f (B.view bus.old)) pid cpu.old bytes known in let a = word_in given.now.words in
         PartHands (come_out r b next a (r.outcome b a))
-        (counts (C.puts console.old) (C.puts console.new) (R.puts report.old) (R.puts report.new) 0) result }
+        (told_counts (C.puts console.old) (C.puts console.new) (R.puts report.old) (R.puts report.new) 0
+        (R.taken report.old) (R.taken report.new)) result }
 {
     let words = &given.words;
     match service {
@@ -143,7 +144,8 @@ fn serve<B: Ranges, C: Sink, R: Sink>(
     ensures part { (f : Filling) (bytes : List ℕ) (known : Known) (r : CallRow) → known.avail ≡ avail → row_there service ≡ Some r
         → let b = before_call (boundless f (B.view bus.old)) pid cpu.old bytes known in let a = word_in given.now.words in
         PartHands (come_out r b next a (r.outcome b a))
-        (counts (C.puts console.old) (C.puts console.new) (R.puts report.old) (R.puts report.new) 0) result }
+        (told_counts (C.puts console.old) (C.puts console.new) (R.puts report.old) (R.puts report.new) 0
+        (R.taken report.old) (R.taken report.new)) result }
 {
     if service >= 25 {
         return serve_semaphore(
@@ -221,11 +223,15 @@ pub fn call<B: Ranges, I: Source, C: Sink, R: Sink>(
     ensures cause { Caused (Rose (C.faults console.old) (C.faults console.new) ⊎ Rose (R.faults report.old) (R.faults report.new)) (Rose (I.faults input.old) (I.faults input.new)) ⊥ ⊥ result }
     // The input fails in a DosRead alone.
     ensures input_service { Caused (Unit {0}) (service ≡ 3) ⊥ ⊥ result }
-    // Each line is one put, and so is the piece where it has bytes; none is put for an exception or a miss.
+    // Each line is one put, and so is the piece where it has bytes; none is put for an exception or a miss. Where a line failed, those in
+    // front of it were put whole.
     ensures puts { CallHands (counts (C.puts console.old) (C.puts console.new) (R.puts report.old) (R.puts report.new) 0) result }
-    ensures part { (f : Filling) (bytes : List ℕ) (known : Known) → IsBound (B.view bus.old) → IsKnown known state.old
+    ensures part { (text : Option (List ℕ)) → IsSeenAs text (I.past input.new)
+        → (f : Filling) (bytes : List ℕ) (known : Known) → IsBound (B.view bus.old)
+        → left_as text (I.left input.old) (I.past input.old) ≡ Some bytes → IsKnown known state.old
         → PartHands (serviced (before_call (boundless f (B.view bus.old)) pid cpu.old bytes known) service next)
-        (counts (C.puts console.old) (C.puts console.new) (R.puts report.old) (R.puts report.new) 0) result }
+        (told_counts (C.puts console.old) (C.puts console.new) (R.puts report.old) (R.puts report.new) 0
+        (R.taken report.old) (R.taken report.new)) result }
 {
     let Some(row) = row_of(service) else {
         return Ok(Called::Trap(13, 0));

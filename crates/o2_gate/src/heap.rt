@@ -22,7 +22,7 @@ ghost use Rattle.o2_gate.specs.Replies.{FitsIn};
 ghost use Rattle.o2_gate.specs.Rows.{IsRowOf};
 ghost use Rattle.o2_run.specs.Faults.{Caused};
 ghost use Rattle.o2_gate.specs.Pieces.{CallHands};
-ghost use Rattle.o2_run.specs.Pieces.{counts, PartHands, SinkHands};
+ghost use Rattle.o2_run.specs.Pieces.{counts, told_counts, LineHands, PartHands};
 
 use crate::Called;
 use crate::line::{put_call, values_in};
@@ -177,7 +177,7 @@ pub(crate) fn refuse<R: Sink>(
     ensures over { OnUndone result ⊥ }
     // The line is one put.
     ensures puts { (c : ℕ) → CallHands (counts c c (R.puts report.old) (R.puts report.new) 0) result }
-    ensures part { (c : ℕ) → SinkHands 0 1 (counts c c (R.puts report.old) (R.puts report.new) 0) result }
+    ensures part { (c : ℕ) → LineHands (counts c c (R.puts report.old) (R.puts report.new) 0) result }
 {
     match put_call(line, pid, row, words, error, &[], report) {
         Put::Failed => Err(Fault::Sink),
@@ -224,7 +224,7 @@ fn complete<B: Ranges, R: Sink>(
     ensures over { OnUndone result ⊥ }
     // The line is one put.
     ensures puts { (c : ℕ) → CallHands (counts c c (R.puts report.old) (R.puts report.new) 0) result }
-    ensures part { (c : ℕ) → SinkHands 0 1 (counts c c (R.puts report.old) (R.puts report.new) 0) result }
+    ensures part { (c : ℕ) → LineHands (counts c c (R.puts report.old) (R.puts report.new) 0) result }
 {
     let values = values_in(slots, plan.answer.value);
     match put_call(line, pid, row, words, 0, values.as_slice(), report) {
@@ -272,7 +272,7 @@ fn finish<B: Ranges, R: Sink>(
     ensures over { OnUndone result ⊥ }
     // The line is one put.
     ensures puts { (c : ℕ) → CallHands (counts c c (R.puts report.old) (R.puts report.new) 0) result }
-    ensures part { (c : ℕ) → SinkHands 0 1 (counts c c (R.puts report.old) (R.puts report.new) 0) result }
+    ensures part { (c : ℕ) → LineHands (counts c c (R.puts report.old) (R.puts report.new) 0) result }
 {
     let error = plan.answer.error;
     if error != 0 {
@@ -319,7 +319,8 @@ pub(crate) fn serve_heap<B: Ranges, R: Sink>(
     ensures puts { (c : ℕ) → CallHands (counts c c (R.puts report.old) (R.puts report.new) 0) result }
     ensures part { (f : Filling) (bytes : List ℕ) (known : Known) (c : ℕ) (r : CallRow) → row_there service ≡ Some r
         → let b = before_call (boundless f (B.view bus.old)) pid cpu.old bytes known in let a = word_in words.now in
-        PartHands (come_out r b next a (r.outcome b a)) (counts c c (R.puts report.old) (R.puts report.new) 0) result }
+        PartHands (come_out r b next a (r.outcome b a))
+        (told_counts c c (R.puts report.old) (R.puts report.new) 0 (R.taken report.old) (R.taken report.new)) result }
 {
     let slots = behind_first(row.slots);
     let selector = words[word_count(slots)];

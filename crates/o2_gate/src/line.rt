@@ -5,6 +5,7 @@ ghost use Rattle.o2_outer.specs.Answers.{Takes, Puts, OnFailed};
 ghost use Rattle.o2_world.specs.Slots.{shown_at, shown_in, values_in, words_in, words_of};
 ghost use Rattle.o2_world.specs.Text.{lines_text};
 ghost use Rattle.o2_world.specs.World.{Calls};
+ghost use Rattle.o2_run.specs.Pieces.{FailsInLine};
 ghost use Rattle.o2_gate.specs.Given.{word_in};
 ghost use Rattle.o2_gate.specs.MovedLines.{AreInside, all_lines, block_lines, line_at, lines_at};
 ghost use Rattle.o2_gate.specs.Replies.{FitsIn, IsValue, lines_of};
@@ -158,6 +159,8 @@ fn put_index<R: Sink>(
         (lines_text (lines_at cause.now block.now index)) result }
     ensures puts { Puts (R.puts report.old) (R.puts report.new)
         (length (lines_at cause.now block.now index)) result }
+    ensures line { OnFailed result (FailsInLine (lines_at cause.now block.now index)
+        (R.taken report.old) (R.taken report.new) (R.puts report.old) (R.puts report.new)) }
     ensures count { R.faults report.old ≤ R.faults report.new }
     ensures cause { OnFailed result (Rose (R.faults report.old) (R.faults report.new)) }
 {
@@ -178,6 +181,8 @@ fn put_block<R: Sink>(line: &mut LineBuffer, cause: &[u8], block: &Block, report
         (lines_text (block_lines cause.now block.now)) result }
     ensures puts { Puts (R.puts report.old) (R.puts report.new)
         (length (block_lines cause.now block.now)) result }
+    ensures line { OnFailed result (FailsInLine (block_lines cause.now block.now)
+        (R.taken report.old) (R.taken report.new) (R.puts report.old) (R.puts report.new)) }
     ensures count { R.faults report.old ≤ R.faults report.new }
     ensures cause { OnFailed result (Rose (R.faults report.old) (R.faults report.new)) }
 {
@@ -198,6 +203,8 @@ fn put_blocks<R: Sink>(line: &mut LineBuffer, cause: &[u8], blocks: &[Block], re
         (lines_text (all_lines cause.now blocks.now)) result }
     ensures puts { Puts (R.puts report.old) (R.puts report.new)
         (length (all_lines cause.now blocks.now)) result }
+    ensures line { OnFailed result (FailsInLine (all_lines cause.now blocks.now)
+        (R.taken report.old) (R.taken report.new) (R.puts report.old) (R.puts report.new)) }
     ensures count { R.faults report.old ≤ R.faults report.new }
     ensures cause { OnFailed result (Rose (R.faults report.old) (R.faults report.new)) }
 {
@@ -226,6 +233,9 @@ pub fn put_reply<R: Sink>(
         (lines_text (lines_of arguments pid error value moves.now)) result }
     ensures puts { Puts (R.puts report.old) (R.puts report.new)
         (length (lines_of arguments pid error value moves.now)) result }
+    // Where one failed, those in front of it were put whole, and none behind it was put.
+    ensures line { OnFailed result (FailsInLine (lines_of arguments pid error value moves.now)
+        (R.taken report.old) (R.taken report.new) (R.puts report.old) (R.puts report.new)) }
     ensures count { R.faults report.old ≤ R.faults report.new }
     ensures cause { OnFailed result (Rose (R.faults report.old) (R.faults report.new)) }
 {

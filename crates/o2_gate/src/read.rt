@@ -18,7 +18,7 @@ ghost use Rattle.o2_gate.specs.Overs.{got_bytes};
 ghost use Rattle.o2_gate.specs.Pointed.{are_ready};
 ghost use Rattle.o2_run.specs.Faults.{Caused};
 ghost use Rattle.o2_gate.specs.Pieces.{CallHands};
-ghost use Rattle.o2_run.specs.Pieces.{counts, SinkHands};
+ghost use Rattle.o2_run.specs.Pieces.{counts, LineHands};
 
 use crate::Called;
 use crate::line::put_call;
@@ -117,7 +117,7 @@ fn deliver<B: Ranges, R: Sink>(
     ensures over { OnUndone result ⊥ }
     // The line is one put.
     ensures puts { (c : ℕ) → CallHands (counts c c (R.puts report.old) (R.puts report.new) 0) result }
-    ensures part { (c : ℕ) → SinkHands 0 1 (counts c c (R.puts report.old) (R.puts report.new) 0) result }
+    ensures part { (c : ℕ) → LineHands (counts c c (R.puts report.old) (R.puts report.new) 0) result }
 {
     let values = [Argument::Word(got.len() as u16)];
     match put_call(line, pid, row, words, 0, &values, report) {
@@ -172,7 +172,7 @@ pub(crate) fn read<B: Ranges, I: Source, R: Sink>(
     ensures over { OnUndone result ⊥ }
     // The line is one put.
     ensures puts { (c : ℕ) → CallHands (counts c c (R.puts report.old) (R.puts report.new) 0) result }
-    ensures part { (c : ℕ) → SinkHands 0 1 (counts c c (R.puts report.old) (R.puts report.new) 0) result }
+    ensures part { (c : ℕ) → LineHands (counts c c (R.puts report.old) (R.puts report.new) 0) result }
 {
     if words[5] != 0 {
         return match put_call(line, pid, row, words, 6, &[Argument::Word(0)], report) {

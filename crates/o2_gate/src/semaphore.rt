@@ -20,7 +20,7 @@ ghost use Rattle.o2_gate.specs.Rows.{IsRowOf};
 ghost use Rattle.o2_gate.specs.Semaphores.{place_of, sem_parts, sem_ruling, sem_slots};
 ghost use Rattle.o2_run.specs.Faults.{Caused};
 ghost use Rattle.o2_gate.specs.Pieces.{CallHands};
-ghost use Rattle.o2_run.specs.Pieces.{counts, PartHands, SinkHands};
+ghost use Rattle.o2_run.specs.Pieces.{counts, told_counts, LineHands, PartHands};
 ghost use Rattle.o2_run.specs.Room.{call_names};
 
 use crate::Called;
@@ -147,7 +147,7 @@ fn settle<B: Ranges, R: Sink>(
     ensures over { OnUndone result ⊥ }
     // The line is one put.
     ensures puts { (c : ℕ) → CallHands (counts c c (R.puts report.old) (R.puts report.new) 0) result }
-    ensures part { (c : ℕ) → SinkHands 0 1 (counts c c (R.puts report.old) (R.puts report.new) 0) result }
+    ensures part { (c : ℕ) → LineHands (counts c c (R.puts report.old) (R.puts report.new) 0) result }
 {
     match put_call(line, pid, row, words, 0, &[], report) {
         Put::Failed => Err(Fault::Sink),
@@ -191,7 +191,8 @@ pub(crate) fn serve_semaphore<B: Ranges, R: Sink>(
     ensures puts { (c : ℕ) → CallHands (counts c c (R.puts report.old) (R.puts report.new) 0) result }
     ensures part { (f : Filling) (bytes : List ℕ) (known : Known) (c : ℕ) (r : CallRow) → row_there service ≡ Some r
         → let b = before_call (boundless f (B.view bus.old)) pid cpu.old bytes known in let a = word_in words.now in
-        PartHands (come_out r b next a (r.outcome b a)) (counts c c (R.puts report.old) (R.puts report.new) 0) result }
+        PartHands (come_out r b next a (r.outcome b a))
+        (told_counts c c (R.puts report.old) (R.puts report.new) 0 (R.taken report.old) (R.taken report.new)) result }
 {
     let place = place_of(service);
     let number = number_at(bus, words, place);

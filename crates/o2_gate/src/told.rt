@@ -16,7 +16,7 @@ ghost use Rattle.o2_gate.specs.Overs.{avail_slots, pid_slots};
 ghost use Rattle.o2_gate.specs.Pointed.{are_ready};
 ghost use Rattle.o2_run.specs.Faults.{Caused};
 ghost use Rattle.o2_gate.specs.Pieces.{CallHands};
-ghost use Rattle.o2_run.specs.Pieces.{counts, SinkHands};
+ghost use Rattle.o2_run.specs.Pieces.{counts, LineHands};
 
 use crate::Called;
 use crate::line::{put_call, values_in};
@@ -61,7 +61,7 @@ pub(crate) fn tell_pid<B: Ranges, R: Sink>(
     ensures over { OnUndone result ⊥ }
     // The line is one put.
     ensures puts { (c : ℕ) → CallHands (counts c c (R.puts report.old) (R.puts report.new) 0) result }
-    ensures part { (c : ℕ) → SinkHands 0 1 (counts c c (R.puts report.old) (R.puts report.new) 0) result }
+    ensures part { (c : ℕ) → LineHands (counts c c (R.puts report.old) (R.puts report.new) 0) result }
 {
     let part = [(pid % 256) as u8, (pid / 256) as u8, 1, 0, 0, 0];
     let values = [
@@ -107,7 +107,7 @@ pub(crate) fn tell_avail<B: Ranges, R: Sink>(
     ensures over { OnUndone result ⊥ }
     // The line is one put.
     ensures puts { (c : ℕ) → CallHands (counts c c (R.puts report.old) (R.puts report.new) 0) result }
-    ensures part { (c : ℕ) → SinkHands 0 1 (counts c c (R.puts report.old) (R.puts report.new) 0) result }
+    ensures part { (c : ℕ) → LineHands (counts c c (R.puts report.old) (R.puts report.new) 0) result }
 {
     let values = values_in(row.slots, avail);
     match put_call(line, pid, row, words, 0, values.as_slice(), report) {

@@ -18,7 +18,7 @@ ghost use Rattle.o2_gate.specs.Given.{word_in};
 ghost use Rattle.o2_gate.specs.Overs.{write_slots};
 ghost use Rattle.o2_run.specs.Faults.{Caused};
 ghost use Rattle.o2_gate.specs.Pieces.{CallHands};
-ghost use Rattle.o2_run.specs.Pieces.{counts, puts_of, PartHands};
+ghost use Rattle.o2_run.specs.Pieces.{counts, told_counts, puts_of, PartHands};
 
 use crate::Called;
 use crate::line::put_call;
@@ -75,7 +75,8 @@ fn put_both<B: Ranges, C: Sink, R: Sink>(
     ensures cause { OnFailed result (Rose (C.faults console.old) (C.faults console.new) ⊎ Rose (R.faults report.old) (R.faults report.new)) }
     ensures piece { C.puts console.new ≡ C.puts console.old + puts_of (word_in words.now 2) }
     ensures line { OnDone result (R.puts report.new ≡ R.puts report.old + 1) }
-    ensures line_at_most { (R.puts report.old ≤ R.puts report.new) × (R.puts report.new ≤ R.puts report.old + 1) }
+    // Where the piece failed the report isn't touched, and where the line did it was handed that.
+    ensures failed { OnFailed result ((report.new ≡ report.old) ⊎ (R.puts report.new ≡ R.puts report.old + 1)) }
 {
     match put_range(bus, words, console) {
         Put::Failed => Put::Failed,
@@ -130,7 +131,8 @@ pub(crate) fn write<B: Ranges, C: Sink, R: Sink>(
     ensures part { (f : Filling) (input : List ℕ) (known : Known)
         → let b = before_call (boundless f (B.view bus.old)) pid cpu.old input known in let a = word_in words.now in
         PartHands (come_out (call_row row.now.name.now write_slots writing) b next a (writing b a))
-        (counts (C.puts console.old) (C.puts console.new) (R.puts report.old) (R.puts report.new) 0) result }
+        (told_counts (C.puts console.old) (C.puts console.new) (R.puts report.old) (R.puts report.new) 0
+        (R.taken report.old) (R.taken report.new)) result }
 {
     let values = [Argument::Word(words[2])];
     if !is_console(words[5]) {

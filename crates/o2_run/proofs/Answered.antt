@@ -1,6 +1,6 @@
 -- What a run makes of the answer of a turn.
 use Rattle.std.proofs.Common.{◌≡◌, ℕ, ◌≤◌, ◌⊎◌, inl, inr, Bool, true, false, ap, sym, ◌∙◌, refl, subst}
-use Rattle.std.specs.Prelude.{Option, Some, Result, Ok, Err}
+use Rattle.std.specs.Prelude.{Option, Some, None, Result, Ok, Err}
 use Rattle.o2_run.specs.declared.steps.Stop.TheVariants as stop
 use Rattle.o2_run.specs.declared.steps.Turn.{Turn}
 use Rattle.o2_run.specs.declared.steps.Turn.TheVariants as turn
@@ -8,16 +8,17 @@ use Rattle.o2_run.specs.declared.fault.Fault.{Fault}
 use Rattle.o2_run.specs.declared.fault.Fault.TheVariants as fault
 use Rattle.o2_outer.specs.Texts.{Rose}
 use Rattle.o2_run.specs.Faults.{CauseOf, fault_turn, went_on}
-use Rattle.o2_run.specs.Turn.{Caused as TurnCaused, is_for_swap, stopped_by}
+use Rattle.o2_run.specs.Turn.{Caused as TurnCaused, OnGoing, is_for_swap, stopped_by}
 use Rattle.o2_run.specs.Ended.{EndsAs, StopsForInput}
 use Rattle.o2_run.proofs.Reached.{rose_since}
 
 pub gives : (t : Turn) (b c : Bool) → ◌≡◌ {A = Result Bool Fault} (Ok b) (went_on t) → b ≡ c → went_on t ≡ Ok c
 gives t b c e is = subst (λ (x : Bool). went_on t ≡ Ok x) is (sym e)
 
--- it goes on behind a step alone
-pub ran_is : (t : Turn) → went_on t ≡ Ok true → t ≡ turn.Ran
-ran_is turn.Ran e = refl
+-- it goes on behind a step or a word alone
+pub ran_is : (t : Turn) → went_on t ≡ Ok true → (t ≡ turn.Ran) ⊎ (t ≡ turn.Discarded)
+ran_is turn.Ran e = inl refl
+ran_is turn.Discarded e = inr refl
 ran_is turn.AllEnded e = absurd (cc)
 ran_is turn.BudgetSpent e = absurd (cc)
 ran_is turn.InputFault e = absurd (cc)
@@ -26,9 +27,19 @@ ran_is turn.NoRoom e = absurd (cc)
 ran_is turn.SwapFull e = absurd (cc)
 ran_is turn.SwapFault e = absurd (cc)
 
+-- and then it isn't stopped, and less is left
+pub still_fresh : (t : Turn) → (t ≡ turn.Ran) ⊎ (t ≡ turn.Discarded) → stopped_by t ≡ None
+still_fresh t (inl is) = ap stopped_by is
+still_fresh t (inr is) = ap stopped_by is
+
+pub less_left : (t : Turn) (P : Type 0) → (t ≡ turn.Ran) ⊎ (t ≡ turn.Discarded) → OnGoing t P → P
+less_left t P (inl is) h = subst (λ (a : Turn). OnGoing a P) is h
+less_left t P (inr is) h = subst (λ (a : Turn). OnGoing a P) is h
+
 -- it is over behind one of the two ends
 pub end_is : (t : Turn) → went_on t ≡ Ok false → (t ≡ turn.AllEnded) ⊎ (t ≡ turn.BudgetSpent)
 end_is turn.Ran e = absurd (cc)
+end_is turn.Discarded e = absurd (cc)
 end_is turn.AllEnded e = inl refl
 end_is turn.BudgetSpent e = inr refl
 end_is turn.InputFault e = absurd (cc)
@@ -40,6 +51,7 @@ end_is turn.SwapFault e = absurd (cc)
 -- and it has a fault behind the answer of this
 pub fault_is : (t : Turn) (f : Fault) → went_on t ≡ Err f → t ≡ fault_turn f
 fault_is turn.Ran f e = absurd (cc)
+fault_is turn.Discarded f e = absurd (cc)
 fault_is turn.AllEnded f e = absurd (cc)
 fault_is turn.BudgetSpent f e = absurd (cc)
 fault_is turn.InputFault f e = let is : fault.Stopped stop.Input ≡ f = cc in ap fault_turn is

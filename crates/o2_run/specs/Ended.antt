@@ -1,13 +1,13 @@
 -- What the texts are at the end of a run.
-use Rattle.std.specs.Prelude.{◌⊎◌, ◌≡◌, ◌<◌, ◌+◌, ◌++◌, ℕ, suc, Bool, false, List, length, Option, Some, Result, Ok, Err}
+use Rattle.std.specs.Prelude.{◌⊎◌, ◌≡◌, ◌<◌, ◌≤◌, ◌+◌, ◌++◌, ℕ, suc, Bool, false, List, length, Option, Some, Result, Ok, Err}
 use Rattle.o2_outer.specs.Texts.{Gains, GainsBetween}
 use Rattle.o2_world.specs.World.{World, Setting}
 use Rattle.o2_world.specs.Text.{lines_text}
-use Rattle.o2_world.specs.Run.{HasWholeTexts, HasPartTexts, InOpening, Between, AtLastLine, after, is_over, console, IsBelowLast}
+use Rattle.o2_world.specs.Run.{HasWholeTexts, HasPartTexts, InOpening, Between, AtLastLine, after, is_over, console, ready, words_done, words_coming, IsBelowLast}
 use Rattle.o2_run.specs.Room.{AllFits, Fits}
 use Rattle.o2_run.specs.Stops.{stop_line, StopFits, StopsFor}
 use Rattle.o2_run.specs.Faults.{fault_turn}
-use Rattle.o2_run.specs.Pieces.{Counts, Hands, HandsUpTo, pieces}
+use Rattle.o2_run.specs.Pieces.{Counts, FailsBehind, Hands, HandsUpTo, pieces}
 use Rattle.o2_run.specs.declared.fault.Fault.{Fault}
 use Rattle.o2_run.specs.declared.fault.Fault.TheVariants as fault
 use Rattle.o2_run.specs.declared.steps.Stop.{Stop}
@@ -52,6 +52,12 @@ part_at (InOpening to_console to_report) = 0
 part_at (Between k below to_console to_report in_order) = k
 part_at (AtLastLine k last to_console to_report) = k
 
+-- the world before it: behind the words that come before it, but none is done in the opening, and none behind the last step
+abbrev pub part_world : {s : Setting} {w : World} {c d r q : Option (List ℕ)} → HasPartTexts s w c d r q → World
+part_world {s} {w} (InOpening to_console to_report) = w
+part_world {s} {w} (Between k below to_console to_report in_order) = ready (after s w k)
+part_world {s} {w} (AtLastLine k last to_console to_report) = after s w k
+
 -- the step at which the world has the input that is left: none is taken in the opening, and a step takes its input before it puts
 -- anything
 abbrev pub left_at : {s : Setting} {w : World} {c d r q : Option (List ℕ)} → HasPartTexts s w c d r q → ℕ
@@ -59,12 +65,11 @@ left_at (InOpening to_console to_report) = 0
 left_at (Between k below to_console to_report in_order) = suc k
 left_at (AtLastLine k last to_console to_report) = k
 
--- the puts of a front, the one that failed among them
-abbrev pub HandsPart : (s : Setting) (w : World) {c d r q : Option (List ℕ)} → Counts → HasPartTexts s w c d r q → Type 0
-HandsPart s w n (InOpening to_console to_report) = HandsUpTo n 0 0 (length w.lines)
-HandsPart s w n (Between k below to_console to_report in_order) =
-    HandsUpTo n (pieces s w (suc k)) (length (after s w k).lines) (length (after s w (suc k)).lines)
-HandsPart s w n (AtLastLine k last to_console to_report) = Hands n (pieces s w k) (length (after s w k).lines + 1)
+-- the puts of a front, the one that failed among them: in a step those of the lines in front of it, and in the opening at most all
+abbrev pub HandsPart : (s : Setting) (w : World) {c d : Option (List ℕ)} (r q : Option (List ℕ)) → Counts → HasPartTexts s w c d r q → Type 0
+HandsPart s w r q n (InOpening to_console to_report) = HandsUpTo n 0 0 (length w.lines)
+HandsPart s w r q n (Between k below to_console to_report in_order) = FailsBehind (pieces s w (suc k)) (after s w k) (after s w (suc k)) r q n
+HandsPart s w r q n (AtLastLine k last to_console to_report) = Hands n (pieces s w k) (length (after s w k).lines + 1)
 
 -- a machine that swaps had room for each step of a front, the one in which a sink failed among them
 abbrev pub FitsPart : (swaps : Bool) (s : Setting) (w : World) {c d r q : Option (List ℕ)} → HasPartTexts s w c d r q → Type 0
@@ -77,16 +82,16 @@ pub record HasPartRun (swaps : Bool) (s : Setting) (w : World) (left console_old
   pub texts : HasPartTexts s w console_old console_new report_old report_new
   pub room : FitsPart swaps s w texts
   pub input : left ≡ Some (after s w (left_at texts)).input
-  pub hands : HandsPart s w puts texts
+  pub hands : HandsPart s w report_old report_new puts texts
 
--- at each end the machine stands for the world of the same k as the texts
+-- at each end the machine stands for the world of the same k as the texts, behind the words that came before its next step
 abbrev pub HasTexts : (stands_now : World → Type 0) → (swaps : Bool) → (blocks : ℕ) → Setting → World
     → (left console_old console_new report_old report_new : Option (List ℕ)) → (fault : Type 0) → (puts : Counts) → Result (Unit {0}) Fault → Type 0
 HasTexts f swaps blocks s w i c d r q e n (Ok x) = (t : HasWholeRun swaps s w i c d r q n) × f (after s w t.texts.last)
 HasTexts f swaps blocks s w i c d r q e n (Err fault.Sink) =
-    (t : HasPartRun swaps s w i c d r q n) × (f (after s w (part_at t.texts)) ⊎ f (after s w (suc (part_at t.texts))))
+    (t : HasPartRun swaps s w i c d r q n) × (f (part_world t.texts) ⊎ f (after s w (suc (part_at t.texts))))
 HasTexts f swaps blocks s w i c d r q e n (Err (fault.Stopped why)) =
-    (t : HasStoppedTexts swaps blocks s w why i c d r q e n) × f (after s w t.steps)
+    (t : HasStoppedTexts swaps blocks s w why i c d r q e n) × f (ready (after s w t.steps))
 
 -- only a machine that swaps stops for anything but its input
 abbrev pub StopsForInput : Result (Unit {0}) Fault → Type 0
@@ -99,11 +104,14 @@ abbrev pub EndsAs : Option Turn → Result (Unit {0}) Fault → Type 0
 EndsAs t (Ok x) = (t ≡ Some turn.AllEnded) ⊎ (t ≡ Some turn.BudgetSpent)
 EndsAs t (Err f) = t ≡ Some (fault_turn f)
 
--- after k steps, none of which ended the run: the machine stands for that world, and both texts are its texts
+-- after k steps, none of which ended the run, and so many of the words that come before the next one: the machine stands for that world,
+-- and both texts are its texts
 pub record HasReached (stands_now : World → Type 0) (swaps : Bool) (s : Setting) (w : World)
     (left : Option (List ℕ)) (console_old console_now report_old report_now : Option (List ℕ)) (puts : Counts) : Type 0 where
   pub steps : ℕ
-  pub stands : stands_now (after s w steps)
+  pub words : ℕ
+  pub stands : stands_now (words_done words (after s w steps))
+  pub few : words ≤ words_coming (after s w steps)
   pub runs : (j : ℕ) → j < steps → is_over (after s w j) ≡ false
   pub room : FitsBelow swaps s w steps
   pub input : left ≡ Some (after s w steps).input

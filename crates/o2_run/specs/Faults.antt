@@ -55,6 +55,7 @@ fault_turn (fault.Stopped why) = turn_of why
 -- what a run makes of an answer: it goes on, it is over, or it has this fault
 abbrev pub went_on : Turn → Result Bool Fault
 went_on turn.Ran = Ok true
+went_on turn.Discarded = Ok true
 went_on turn.AllEnded = Ok false
 went_on turn.BudgetSpent = Ok false
 went_on turn.SinkFault = Err fault.Sink

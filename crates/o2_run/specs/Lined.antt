@@ -3,7 +3,7 @@ use Rattle.std.specs.Prelude.{◌≡◌, ◌≤◌, ℕ, ◌+◌, ◌++◌, Bool
 use Rattle.o2_outer.specs.Texts.{Gains, Rose}
 use Rattle.o2_world.specs.World.{World, Setting}
 use Rattle.o2_world.specs.Text.{lines_text}
-use Rattle.o2_world.specs.Run.{after}
+use Rattle.o2_world.specs.Run.{after, ready}
 use Rattle.o2_run.specs.Ended.{HasStoppedTexts, HasTexts}
 use Rattle.o2_run.specs.Pieces.{Counts}
 use Rattle.o2_run.specs.Stops.{stop_line}
@@ -28,5 +28,5 @@ abbrev pub HasLined : (stands_now : World → Type 0) → (swaps : Bool) → (bl
 HasLined f swaps blocks s w i c d r q e n put (Ok x) = HasTexts f swaps blocks s w i c d r q e n (Ok x)
 HasLined f swaps blocks s w i c d r q e n put (Err Sink) = HasTexts f swaps blocks s w i c d r q e n (Err Sink)
 HasLined f swaps blocks s w i c d r q e n put (Err (Stopped why)) =
-    (t : HasStoppedTexts swaps blocks s w why i c d r q e n) × f (after s w t.steps)
+    (t : HasStoppedTexts swaps blocks s w why i c d r q e n) × f (ready (after s w t.steps))
     × IsPut put (Gains r q (lines_text (after s w t.steps).lines ++ stop_line why)) e

@@ -17,7 +17,7 @@ use Rattle.o2_world.specs.Calls.{Before, Effect, argument, has_arguments, row_of
 use Rattle.o2_world.specs.Outcomes.{CallRow}
 use Rattle.o2_world.specs.Slots.{Pointer, are_good, heaps_in, may_have_heap, pointers_in, words_in}
 use Rattle.o2_world.specs.Effect.{answered}
-use Rattle.o2_world.specs.Run.{before, changed, next_dispatch}
+use Rattle.o2_world.specs.Run.{before, changed, next_dispatch, ready}
 
 -- a length in whole paragraphs of 16 bytes
 abbrev pub rounded : ℕ → ℕ
@@ -106,15 +106,24 @@ abbrev pub is_locked : Option Segment → Bool
 is_locked None = false
 is_locked (Some s) = nat_lt 0 s.lock
 
+-- a segment that is discarded has no bytes to keep
+abbrev pub kept_size : Option Segment → ℕ
+kept_size None = 0
+kept_size (Some s) = if s.discarded then 0 else length s.bytes
+
 -- the larger of a name's sizes, in whole paragraphs
 abbrev pub larger : Map Segment → Map Segment → ℕ → ℕ
 larger old new n = rounded (max (size_of (get old n)) (size_of (get new n)))
+
+-- the same, where one that is discarded before the step has no bytes there
+abbrev pub needs : Map Segment → Map Segment → ℕ → ℕ
+needs old new n = rounded (max (kept_size (get old n)) (size_of (get new n)))
 
 -- Room: what is needed or locked, all in memory together
 abbrev pub room_between : Map Segment → Map Segment → (need : List ℕ) → ℕ
 room_between old new need =
     let counts : ℕ → Bool = λ n. is_in n need || (is_locked (get old n) || is_locked (get new n)) in
-    sum (map (larger old new) (filter counts (of_both old new)))
+    sum (map (needs old new) (filter counts (of_both old new)))
 
 -- Live load: all that lives before or after the step, in memory together
 abbrev pub load_between : Map Segment → Map Segment → ℕ
@@ -139,12 +148,19 @@ abbrev pub load_next : Setting → World → Dispatch → Option Process → ℕ
 load_next s w d None = load_between w.names w.names
 load_next s w d (Some p) = load_between w.names (behind w d p (before s w d.current p)).names
 
--- of the next step, 0 where there is none
+-- of the step that is chosen, 0 where there is none
+abbrev pub chosen_room : Setting → World → ℕ
+chosen_room s w = let d = next_dispatch s w in room_next s w d (process_at w.processes d.current)
+
+abbrev pub chosen_load : Setting → World → ℕ
+chosen_load s w = let d = next_dispatch s w in load_next s w d (process_at w.processes d.current)
+
+-- of the next step, behind the words that come before it
 unfoldable pub room : Setting → World → ℕ
-room s w = let d = next_dispatch s w in room_next s w d (process_at w.processes d.current)
+room s w = chosen_room s (ready w)
 
 unfoldable pub live_load : Setting → World → ℕ
-live_load s w = let d = next_dispatch s w in load_next s w d (process_at w.processes d.current)
+live_load s w = chosen_load s (ready w)
 
 -- A machine that swaps keeps its segments in the memory of its setting, and takes no step whose room that doesn't have.
 abbrev pub Fits : (swaps : Bool) → Setting → World → Type 0

@@ -1,9 +1,9 @@
 -- What a turn answers, and what it does to both texts.
-use Rattle.std.specs.Prelude.{◌⊎◌, ◌≡◌, Bool, true, false, ℕ, List, ◌++◌, Option, Some, None}
+use Rattle.std.specs.Prelude.{◌⊎◌, ◌≡◌, ◌<◌, Bool, true, false, ℕ, List, ◌++◌, Option, Some, None}
 use Rattle.o2_outer.specs.Texts.{Continues, ContinuesBetween}
 use Rattle.o2_world.specs.World.{World, Setting}
 use Rattle.o2_world.specs.Text.{lines_text}
-use Rattle.o2_world.specs.Run.{step, any_lives, is_over, console, report}
+use Rattle.o2_world.specs.Run.{step, any_lives, is_over, console, report, with_word, words_coming}
 use Rattle.o2_run.specs.Room.{Fits}
 use Rattle.o2_run.specs.Stops.{stop_line, StopFits, StopsFor}
 use Rattle.o2_run.specs.Faults.{CauseOf, OnFault, fault_of, stop_of}
@@ -12,7 +12,19 @@ use Rattle.o2_run.specs.declared.steps.Stop.TheVariants as stop
 use Rattle.o2_run.specs.declared.steps.Turn.{Turn}
 use Rattle.o2_run.specs.declared.steps.Turn.TheVariants as turn
 
--- where the run isn't over, a turn is one step, whose room a machine that swaps has
+-- where the run isn't over and a word comes before the next step, a turn is that word: it puts nothing and takes nothing
+pub record DoesWord (stands_now : World → Type 0) (w : World) (left console_old console_new report_old report_new : Option (List ℕ)) : Type 0 where
+  pub next : 0 < words_coming w
+  pub input : left ≡ Some w.input
+  pub stands : stands_now (with_word w)
+  pub to_console : console_new ≡ console_old
+  pub to_report : report_new ≡ report_old
+
+-- no word comes before the next step
+abbrev pub NoWord : World → Type 0
+NoWord w = words_coming w ≡ 0
+
+-- where none comes, a turn is that step, whose room a machine that swaps has
 pub record StepsOn (stands_now : World → Type 0) (swaps : Bool) (s : Setting) (w : World)
     (left : Option (List ℕ)) (console_old console_new report_old report_new : Option (List ℕ)) : Type 0 where
   pub runs : is_over w ≡ false
@@ -65,22 +77,24 @@ pub record IsStopped (stands_now : World → Type 0) (swaps : Bool) (blocks : �
   pub to_report : ContinuesBetween report_old report_new (lines_text w.lines) (lines_text w.lines ++ stop_line why)
   pub whole : put ≡ true → Continues report_old report_new (lines_text w.lines) (lines_text w.lines ++ stop_line why)
 
--- from a machine that stands for w and hasn't stopped, where `swaps` says whether it swaps, `blocks` how many blocks its device
+-- From a machine that stands for w and hasn't stopped: a word comes exactly where one is next. Here where `swaps` says whether it swaps, `blocks` how many blocks its device
 -- has, and `put` that a stop line was put whole
 abbrev pub Turns : (World → Type 0) → (swaps : Bool) → (blocks : ℕ) → Setting → World → (put : Bool)
     → (left console_old console_new report_old report_new : Option (List ℕ)) → Turn → Type 0
-Turns f swaps blocks s w put i c d r q turn.Ran = StepsOn f swaps s w i c d r q
+Turns f swaps blocks s w put i c d r q turn.Ran = NoWord w × StepsOn f swaps s w i c d r q
+Turns f swaps blocks s w put i c d r q turn.Discarded = DoesWord f w i c d r q
 Turns f swaps blocks s w put i c d r q turn.AllEnded = IsClosed f w false i c d r q
 Turns f swaps blocks s w put i c d r q turn.BudgetSpent = IsClosed f w true i c d r q
-Turns f swaps blocks s w put i c d r q turn.InputFault = IsStopped f swaps blocks s w stop.Input put i c d r q
-Turns f swaps blocks s w put i c d r q turn.SinkFault = StepsInPart f swaps s w i c d r q ⊎ IsClosedInPart f w i c d r q
-Turns f swaps blocks s w put i c d r q turn.NoRoom = IsStopped f swaps blocks s w stop.NoRoom put i c d r q
-Turns f swaps blocks s w put i c d r q turn.SwapFull = IsStopped f swaps blocks s w stop.SwapFull put i c d r q
-Turns f swaps blocks s w put i c d r q turn.SwapFault = IsStopped f swaps blocks s w stop.SwapFault put i c d r q
+Turns f swaps blocks s w put i c d r q turn.InputFault = NoWord w × IsStopped f swaps blocks s w stop.Input put i c d r q
+Turns f swaps blocks s w put i c d r q turn.SinkFault = (NoWord w × StepsInPart f swaps s w i c d r q) ⊎ IsClosedInPart f w i c d r q
+Turns f swaps blocks s w put i c d r q turn.NoRoom = NoWord w × IsStopped f swaps blocks s w stop.NoRoom put i c d r q
+Turns f swaps blocks s w put i c d r q turn.SwapFull = NoWord w × IsStopped f swaps blocks s w stop.SwapFull put i c d r q
+Turns f swaps blocks s w put i c d r q turn.SwapFault = NoWord w × IsStopped f swaps blocks s w stop.SwapFault put i c d r q
 
 -- the answer that is final
 abbrev pub stopped_by : Turn → Option Turn
 stopped_by turn.Ran = None
+stopped_by turn.Discarded = None
 stopped_by t = Some t
 
 -- the stop line is put whole unless the report failed; in other turns none is put
@@ -102,6 +116,8 @@ is_for_swap turn.SwapFull = true
 is_for_swap turn.SwapFault = true
 is_for_swap _ = false
 
-abbrev pub OnRan : Turn → Type 0 → Type 0
-OnRan turn.Ran P = P
-OnRan _ P = Unit {0}
+-- the answers behind which the run goes on
+abbrev pub OnGoing : Turn → Type 0 → Type 0
+OnGoing turn.Ran P = P
+OnGoing turn.Discarded P = P
+OnGoing _ P = Unit {0}

@@ -41,7 +41,7 @@ impl Turn {
         ensures { result ≡ went_on self }
     {
         match self {
-            Turn::Ran => Ok(true),
+            Turn::Ran | Turn::Discarded => Ok(true),
             Turn::AllEnded | Turn::BudgetSpent => Ok(false),
             Turn::SinkFault => Err(Fault::Sink),
             Turn::InputFault => Err(Fault::from(Stop::Input)),

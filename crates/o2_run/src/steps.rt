@@ -4,8 +4,8 @@ ghost use Rattle.o2_outer.specs.Texts.{Rose};
 ghost use Rattle.o2_outer.specs.Inputs.{GoesOn, IsSeenAs, left_as};
 ghost use Rattle.o2_world.specs.World.{World, Setting};
 ghost use Rattle.o2_run.specs.declared.steps.Turn.{Turn};
-ghost use Rattle.o2_run.specs.Turn.{Turns, LineIs, Caused, OnRan, stopped_by, is_for_swap};
-ghost use Rattle.o2_run.specs.Pieces.{counts, TurnHands};
+ghost use Rattle.o2_run.specs.Turn.{Turns, LineIs, Caused, OnGoing, stopped_by, is_for_swap};
+ghost use Rattle.o2_run.specs.Pieces.{told_counts, TurnHands};
 ghost use Rattle.o2_run.specs.Slice.{OverSome, Slices};
 ghost use Rattle.o2_world.specs.Run.{is_over};
 ghost use Rattle.o2_run.specs.Room.{AllFits};
@@ -25,11 +25,13 @@ pub enum Stop {
     SwapFault,
 }
 
-/// What a turn came to. All but `Ran` are final.
+/// What a turn came to. All but `Ran` and `Discarded` are final.
 #[derive(Clone, Copy, Debug, PartialEq, Eq)]
 pub enum Turn {
     /// One step.
     Ran,
+    /// A word `discard` of the script.
+    Discarded,
     /// All processes have ended; the last line is put.
     AllEnded,
     /// The budget is spent while a process lives; the last line is put.
@@ -62,7 +64,7 @@ pub trait Steps {
     /// That it goes on over a device of so many blocks.
     ghost fits: { Self → (blocks : ℕ) → Type 0 };
 
-    /// How many steps are left at most.
+    /// How many steps and words of the script are left at most.
     ghost left: { Self → ℕ };
 
     /// The answer of its first stop or end, and none before.
@@ -74,8 +76,8 @@ pub trait Steps {
     /// That it keeps nothing in blocks of its device.
     ghost none_swapped: { Self → Type 0 };
 
-    /// One step, or the last line, or a stop line. After the first answer other than `Ran` each turn gives that answer and
-    /// touches nothing.
+    /// One step, or one word `discard`, or the last line, or a stop line. After the first answer other than `Ran` and `Discarded` each
+    /// turn gives that answer and touches nothing.
     fn turn<I: Source, C: Sink, R: Sink, S: SwapDevice>(
         &mut self,
         input: &mut I,
@@ -93,11 +95,13 @@ pub trait Steps {
             (left_as text (I.left input.new) (I.past input.new))
             (C.taken console.old) (C.taken console.new) (R.taken report.old) (R.taken report.new) result }
         ensures goes_on { GoesOn (I.past input.old) (I.past input.new) }
-        // Each line is one put, and so is the piece for the console, where it has bytes.
+        // Each line is one put, and so is the piece for the console, where it has bytes. Where a line failed, those in front of it were
+        // put whole.
         ensures puts { stopped self.old ≡ None → IsTrue (S.told swap.new) → (text : Option (List ℕ)) → IsSeenAs text (I.past input.new)
             → (s : Setting) (w : World) → stands self.old (S.blocks swap.old) (S.block swap.old) s w
             → left_as text (I.left input.old) (I.past input.old) ≡ Some w.input
-            → TurnHands s w (counts (C.puts console.old) (C.puts console.new) (R.puts report.old) (R.puts report.new) (length w.lines)) result }
+            → TurnHands s w (told_counts (C.puts console.old) (C.puts console.new) (R.puts report.old) (R.puts report.new) (length w.lines)
+            (R.taken report.old) (R.taken report.new)) result }
         ensures stops { stopped self.new ≡ stopped_by result }
         ensures fixed { fixed self.new ≡ fixed self.old }
         ensures device { fits self.new (S.blocks swap.new) }
@@ -130,11 +134,11 @@ pub trait Steps {
             → Caused (Rose (C.faults console.old) (C.faults console.new) ⊎ Rose (R.faults report.old) (R.faults report.new))
             (Rose (I.faults input.old) (I.faults input.new)) (Rose (S.faults swap.old) (S.faults swap.new)) result }
         ensures line { stopped self.old ≡ None → LineIs (line_put self.new) (Rose (R.faults report.old) (R.faults report.new)) result }
-        ensures left { OnRan result (left self.new < left self.old) };
+        ensures left { OnGoing result (left self.new < left self.old) };
 
     /// Steps of one process within its turn that are done at once, one behind another; how many. It stops before a step that
-    /// isn't done at once, as it misses a segment, calls a service or raises an exception, at the end of the turn, and where the
-    /// trap flag is set. So there may be none.
+    /// isn't done at once, as it misses a segment, raises an exception, or calls a service and doesn't wait, at the end of the turn,
+    /// before a word `discard`, and where the trap flag is set. So there may be none.
     fn slice(&mut self) -> u32
         requires device { OverSome (fits self.old) }
         // They are as many steps of the boundless machine, none of which puts anything or takes anything from the input.
@@ -144,7 +148,7 @@ pub trait Steps {
         ensures stops { stopped self.new ≡ stopped self.old }
         ensures fixed { fixed self.new ≡ fixed self.old }
         ensures device { (blocks : ℕ) → fits self.old blocks → fits self.new blocks }
-        ensures left { left self.new + result ≡ left self.old }
+        ensures left { left self.new + result ≤ left self.old }
         ensures idle { none_swapped self.old → none_swapped self.new }
 
         // Behind a stop or an end there is none.

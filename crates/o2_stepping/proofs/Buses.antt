@@ -1,5 +1,5 @@
 -- What the boundless machine sees where a bus over a store shows its view.
-use Rattle.std.proofs.Common.{◌≡◌, ℕ, ◌==◌, ◌&&◌, ◌||◌, Bool, true, false, List, [], ◌∷◌, Option, ap, sym, ◌∙◌, refl, subst}
+use Rattle.std.proofs.Common.{◌≡◌, ℕ, ◌==◌, ◌&&◌, ◌||◌, Bool, true, List, [], ◌∷◌, Option, ap, sym, ◌∙◌, refl, subst}
 use Rattle.std.specs.Prelude.{Result, Ok, Err}
 use Rattle.o2_base.specs.declared.selector.Selector.{Selector}
 use Rattle.o2_isa.specs.declared.cpu.Cpu.{Cpu}
@@ -8,14 +8,15 @@ use Rattle.o2_isa.specs.Pointers.{has_present_range, is_ready}
 use Rattle.o2_isa.specs.Presence.{IsMissed}
 use Rattle.o2_store.specs.Shelf.{Shelf}
 use Rattle.o2_segbus.specs.declared.seg_bus.SegBus.{SegBus}
-use Rattle.o2_segbus.specs.Seen.{hold_in, size_in, bytes_in, seen, seen_with}
+use Rattle.o2_segbus.specs.Seen.{gone_in, hold_in, size_in, bytes_in, seen, seen_with}
 use Rattle.o2_segbus.specs.Bus.{bus_view}
 use Rattle.o2_segbus.specs.Calls.{view_of}
 use Rattle.o2_world.specs.Known.{Known}
 use Rattle.o2_world.specs.Calls.{Before}
 use Rattle.o2_world.specs.Effect.{effect}
 use Rattle.o2_run.specs.declared.fault.Fault.{Fault}
-use Rattle.o2_run.specs.Pieces.{Counts, PartHands}
+use Rattle.o2_run.specs.Pieces.{Counts}
+use Rattle.o2_stepping.specs.Pieces.{AttemptPart}
 use Rattle.o2_world.specs.Slots.{Pointer}
 use Rattle.o2_run.specs.Room.{touched}
 use Rattle.o2_gate.specs.declared.arguments.Arguments.{Arguments}
@@ -37,7 +38,7 @@ by_registers away s held registers = record {
   gate = built_gates;
   size = size_in s;
   present = λ n. true;
-  discarded = λ n. false;
+  discarded = gone_in s;
   bytes = bytes_with away s;
   registers = registers;
   rest = no_rest;
@@ -60,7 +61,7 @@ present_there b c names p = p
 
 pub missed_there : (b : SegBus) (c : Cpu) (s : Selector) (names : List ℕ) → IsMissed (view_of b) s names → IsMissed (seen b.store.now b.regions.now b.pid c) s names
 unfolding bus_view seen_with
-missed_there b c s names m = record { hold = m.hold; found_it = m.found_it; absent = m.absent; named = m.named }
+missed_there b c s names m = record { hold = m.hold; found_it = m.found_it; absent = m.absent; whole = m.whole; named = m.named }
 
 -- where a step is missed
 pub on_missed : (P Q : Selector → Type 0) (r : Result Attempt Fault) → ((s : Selector) → P s → Q s) → OnMissed r P → OnMissed r Q
@@ -84,8 +85,8 @@ module _ (away : ℕ → List ℕ) (a b : SegBus) (c d : Cpu) (number : ℕ) (in
       subst (λ (v : View). let e = before_call v number c input known in Leaves e (effect e) d (bytes_with away a.store.now) (bytes_with away b.store.now) i j x y r q result)
       (boundless_is away a c agrees) h
 
-  pub part_there : (n : Counts) (result : Result Attempt Fault) → PartHands (effect on_bus) n result → PartHands (effect in_store) n result
-  part_there n result h = subst (λ (v : View). PartHands (effect (before_call v number c input known)) n result) (boundless_is away a c agrees) h
+  pub part_there : (n : Counts) (result : Result Attempt Fault) → AttemptPart (effect on_bus) n result → AttemptPart (effect in_store) n result
+  part_there n result h = subst (λ (v : View). AttemptPart (effect (before_call v number c input known)) n result) (boundless_is away a c agrees) h
 
   touched_same : touched on_bus ≡ touched in_store
   touched_same = ap (λ (v : View). touched (before_call v number c input known)) (boundless_is away a c agrees)

@@ -45,7 +45,7 @@ module _ (f : Filling) (v w : View) (c d : Cpu) where
   gate_boundless service next a = (answers_unseen no_rest no_hidden (outcome.Gate service next) (whole_state f (state d w)) (whole_state f (state c v)) a).0
 
 pub away_by : (v : View) (s : Selector) (names : List ℕ) → IsMissed v s names → IsAway v s
-away_by v s names m = record { hold = m.hold; found_it = m.found_it; absent = m.absent }
+away_by v s names m = record { hold = m.hold; found_it = m.found_it; absent = m.absent; whole = m.whole }
 
 pub whole_same : (f : Filling) (v w : View) → w ≡ v → (n : ℕ) → (whole f w).bytes n ≡ (whole f v).bytes n
 whole_same f v w e n = ap (λ (x : View). (whole f x).bytes n) e

@@ -15,6 +15,8 @@ pub mod Puts
 pub mod Reading
 pub mod NextRooms
 pub mod Goings
+pub mod SeatMarks
+pub mod Wholes
 pub mod Here
 pub mod ReplyLines
 pub mod Asked

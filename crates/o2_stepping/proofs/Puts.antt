@@ -1,5 +1,6 @@
 -- The puts of a step, by those of its call and of the line of an exception.
-use Rattle.std.proofs.Common.{◌≡◌, ℕ, ◌+◌, Bool, true, false, not, ◌&&◌, [], ◌∷◌, ◌++◌, length, sym, ◌∙◌, refl, subst, arith, length-append, if◌then◌else◌}
+use Rattle.std.proofs.Common.{◌≡◌, ℕ, Bool, true, false, not, ◌&&◌, List, [], ◌∷◌, ◌++◌, Option, ap, sym, ◌∙◌, refl, subst, arith, if◌then◌else◌}
+use Rattle.o2_isa.specs.declared.cpu.Cpu.{Cpu}
 use Rattle.std.specs.Prelude.{Result, Ok, Err}
 use Rattle.o2_base.specs.declared.selector.Selector.{Selector}
 use Rattle.o2_world.specs.World.{Traps, is_live}
@@ -8,12 +9,13 @@ use Rattle.o2_world.specs.Calls.{Before, Effect, trapped}
 use Rattle.o2_world.specs.Effect.{single_stepped, has_trap_flag}
 use Rattle.o2_run.specs.declared.fault.Fault.{Fault}
 use Rattle.o2_run.specs.declared.fault.Fault.TheVariants as fault
-use Rattle.o2_run.specs.Pieces.{Counts, counts, Hands, HandsUpTo, SinkHands, PartHands, puts_of}
+use Rattle.o2_run.specs.Pieces.{Counts, counts, told_counts, AtLine, AtPiece, FaultPart, Hands, PartHands, puts_of}
+use Rattle.o2_run.proofs.FailedLines.{fails_before}
 use Rattle.o2_gate.specs.declared.called.Called.{Called}
 use Rattle.o2_gate.specs.declared.called.Called.TheVariants.{Asked, Back, Exited, Trap, Waits}
 use Rattle.o2_gate.specs.declared.arguments.Arguments.{Arguments}
 use Rattle.o2_gate.specs.Pieces.{CallHands}
-use Rattle.o2_stepping.specs.Pieces.{StepHands, AttemptHands}
+use Rattle.o2_stepping.specs.Pieces.{AttemptHands, AttemptPart, StepHands, StepPart}
 use Rattle.o2_stepping.specs.Taken.{IsSwapStop}
 use Rattle.o2_stepping.specs.declared.one_step.Stepped.{Stepped}
 use Rattle.o2_stepping.specs.declared.one_step.Attempt.{Attempt}
@@ -54,22 +56,33 @@ behind P c d r q p nothing h =
     let report : q ≡ r = omega (arith, nothing.to_report) in
     subst (λ (z : ℕ). P (counts z d r p 0)) console (subst (λ (z : ℕ). P (counts d d z p 0)) report h)
 
+-- the same, where the report had taken nothing
+pub behind_told : (P : Counts → Type 0) (c d r q p : ℕ) (x y z : Option (List ℕ)) → Hands (counts c d r q 0) 0 0 → y ≡ x → P (told_counts d d q p 0 y z) → P (told_counts c d r p 0 x z)
+behind_told P c d r q p x y z nothing same h =
+    let console : d ≡ c = omega (arith, nothing.to_console) in
+    let report : q ≡ r = omega (arith, nothing.to_report) in
+    subst (λ (k : ℕ). P (told_counts k d r p 0 x z)) console
+    (subst (λ (k : ℕ). P (told_counts d d k p 0 x z)) report
+    (subst (λ (k : Option (List ℕ)). P (told_counts d d q p 0 k z)) same h))
+
 -- the line of an exception alone
-pub trap_part : (b : Before) (e : Effect) (vector : ℕ) (n : Counts) (result : Result Attempt Fault) → e ≡ single_stepped b (trapped b vector) → SinkHands 0 1 n result → PartHands e n result
-trap_part b e vector n result is h = subst (λ (x : Effect). PartHands x n result) (sym (is ∙ ended_stays b (trapped b vector) refl)) h
+pub trap_part : (b : Before) (e : Effect) (vector : ℕ) (registers : Cpu) (n : Counts) (result : Result Attempt Fault) → e ≡ single_stepped b (trapped b vector) → registers ≡ b.cpu
+    → (e.piece ≡ [] → e.lines ≡ Traps b.number vector registers.cs registers.ip ∷ [] → AttemptPart e n result) → AttemptPart e n result
+trap_part b e vector registers n result is same part =
+    let whole : e ≡ trapped b vector = is ∙ ended_stays b (trapped b vector) refl in
+    part (ap (λ (x : Effect). x.piece) whole)
+    (ap (λ (x : Effect). x.lines) whole ∙ ap (λ (z : Cpu). Traps b.number vector z.cs z.ip ∷ []) (sym same))
 
 -- a line more changes nothing of what failed before it
-more_up_to : (n : Counts) (pieces lines more : ℕ) → HandsUpTo n pieces 0 lines → HandsUpTo n pieces 0 (lines + more)
-more_up_to n pieces lines more h = record { to_console = h.to_console; at_least = h.at_least; at_most = omega (arith, h.at_most) }
-
-with_line : (b : Before) (e : Effect) (n : Counts) (flag live : Bool) → HandsUpTo n (puts_of (length e.piece)) 0 (length e.lines)
-    → let f : Effect = if flag && live then record e { state = Trapped 1; lines = e.lines ++ Traps b.number 1 b.cpu.cs b.cpu.ip ∷ [] } else e in HandsUpTo n (puts_of (length f.piece)) 0 (length f.lines)
-with_line b e n true true h = rw (length-append e.lines (Traps b.number 1 b.cpu.cs b.cpu.ip ∷ [])) (more_up_to n (puts_of (length e.piece)) (length e.lines) 1 h)
+with_line : (b : Before) (e : Effect) (n : Counts) (flag live : Bool) → FaultPart e n fault.Sink
+    → FaultPart (if flag && live then record e { state = Trapped 1; lines = e.lines ++ Traps b.number 1 b.cpu.cs b.cpu.ip ∷ [] } else e) n fault.Sink
+with_line b e n true true (AtPiece piece same none) = AtPiece piece same none
+with_line b e n true true (AtLine piece fails) = AtLine piece (fails_before e.lines (Traps b.number 1 b.cpu.cs b.cpu.ip ∷ []) n.text_old n.text_new n.report_old n.report_new fails)
 with_line b e n true false h = h
 with_line b e n false live h = h
 
-pub fault_part : (b : Before) (e whole : Effect) (n : Counts) (f : Fault) → whole ≡ single_stepped b e → PartHands {T = Called} e n (Err f) → PartHands {T = Attempt} whole n (Err f)
-fault_part b e whole n fault.Sink is h = subst (λ (x : Effect). HandsUpTo n (puts_of (length x.piece)) 0 (length x.lines)) (sym is) (with_line b e n (has_trap_flag b.cpu.flags) (is_live e.state && not e.waits) h)
+pub fault_part : (b : Before) (e whole : Effect) (n : Counts) (f : Fault) → whole ≡ single_stepped b e → PartHands {T = Called} e n (Err f) → AttemptPart whole n (Err f)
+fault_part b e whole n fault.Sink is h = subst (λ (x : Effect). FaultPart x n fault.Sink) (sym is) (with_line b e n (has_trap_flag b.cpu.flags) (is_live e.state && not e.waits) h)
 fault_part b e whole n (fault.Stopped why) is h = tt
 
 -- an attempt as a step, where nothing can be missed
@@ -80,9 +93,12 @@ pub ran_fault : (n : Counts) (f : Fault) → AttemptHands n (Err f) → StepHand
 ran_fault n fault.Sink h = tt
 ran_fault n (fault.Stopped why) h = h
 
-pub part_fault : (e : Effect) (n : Counts) (f : Fault) → PartHands {T = Attempt} e n (Err f) → PartHands {T = Stepped} e n (Err f)
-part_fault e n fault.Sink h = h
-part_fault e n (fault.Stopped why) h = tt
+-- what a sink's fault leaves, too
+pub ran_part : (e : Effect) (n : Counts) (a : Attempt) (ran : Stepped) → a ≡ attempt.Stepped ran → AttemptPart e n (Ok a) → StepPart e n (Ok ran)
+ran_part e n a ran is h = subst (λ (x : Attempt). AttemptPart e n (Ok x)) is h
+
+pub part_fault : (e : Effect) (n : Counts) (f : Fault) → AttemptPart e n (Err f) → StepPart e n (Err f)
+part_fault e n f h = h
 
 -- a stop before a try
 pub stop_hands : (c r : ℕ) (f : Fault) → IsSwapStop f → AttemptHands (counts c c r r 0) (Err f)

@@ -20,7 +20,8 @@ use Rattle.o2_gate.specs.MovedLines.{all_lines, block_lines, line_at, line_numbe
 use Rattle.o2_gate.specs.Replies.{lines_of}
 use Rattle.o2_gate.specs.Targets.{name_of}
 use Rattle.o2_gate.proofs.MovedLines.{indexes_length}
-use Rattle.o2_run.specs.Pieces.{Counts, counts}
+use Rattle.o2_run.specs.Pieces.{Counts, counts, FailsInLine}
+use Rattle.o2_run.proofs.FailedLines.{fails_before, fails_behind, fails_first}
 use Rattle.o2_stepping.specs.Pieces.{HandsWhole}
 use Rattle.o2_stepping.specs.Ran.{TakesText}
 use Rattle.o2_stepping.specs.Replied.{state_behind, trap_lines}
@@ -75,6 +76,9 @@ module _ (number : ℕ) (c : Cpu) (flag : has_trap_flag c.flags ≡ false) where
   pub clear_report : (ls : List Line) (whole : Bool) (r q : Option (List ℕ)) → TakesText whole r q (lines_text ls) → TakesText whole r q (lines_text (ls ++ trap_lines number c))
   clear_report ls whole r q h = subst (λ (l : List Line). TakesText whole r q (lines_text l)) (sym (clear_lines ls)) h
 
+  pub clear_fails : (ls : List Line) (r q : Option (List ℕ)) (before now : ℕ) → FailsInLine ls r q before now → FailsInLine (ls ++ trap_lines number c) r q before now
+  clear_fails ls r q before now h = subst (λ (l : List Line). FailsInLine l r q before now) (sym (clear_lines ls)) h
+
 pub hands_as : (whole : Bool) (n : Counts) (a b : ℕ) → b ≡ a → HandsWhole whole n 0 a → HandsWhole whole n 0 b
 hands_as whole n a b e h = subst (λ (k : ℕ). HandsWhole whole n 0 k) (sym e) h
 
@@ -108,6 +112,21 @@ module _ (number : ℕ) (c : Cpu) (flag : has_trap_flag c.flags ≡ true) where
 
   pub set_whole : (ls : List Line) (r s q : Option (List ℕ)) → Gains r s (lines_text ls) → Gains s q (lines_text trap) → Gains r q (lines_text (ls ++ trap_lines number c))
   set_whole ls r s q g h = subst (λ (t : List ℕ). Gains r q t) (sym (more_lines ls)) (puts_more (lines_text ls) (lines_text trap) r s q put.Done g h)
+
+  pub late_fails : (ls : List Line) (r s q : Option (List ℕ)) (before mid now : ℕ) → Gains r s (lines_text ls) → mid ≡ before + length ls → GainsSome s q (λ front. IsPrefix front (lines_text trap))
+      → now ≡ mid + 1 → FailsInLine (ls ++ trap_lines number c) r q before now
+  late_fails ls r s q before mid now put count front one =
+      fails_behind ls (trap_lines number c) r s q before mid now put count
+      (subst (λ (l : List Line). FailsInLine l s q mid now) (sym set_lines) (fails_first (Traps number 1 c.cs c.ip) [] s q mid now front one))
+
+-- a line of the call failed, whatever line would follow
+pub call_fails : (number : ℕ) (c : Cpu) (ls : List Line) (r q : Option (List ℕ)) (before now : ℕ) → FailsInLine ls r q before now → FailsInLine (ls ++ trap_lines number c) r q before now
+call_fails number c ls r q before now h = fails_before ls (trap_lines number c) r q before now h
+
+-- how many were put whole
+pub whole_count : (w : Bool) (c r q lines : ℕ) → w ≡ true → HandsWhole w (counts c c r q 0) 0 lines → q ≡ r + lines
+whole_count true c r q lines e h = (let put = h.to_report in omega (arith, put))
+whole_count false c r q lines e h = absurd (cc)
 
 -- the lines are put, and then one more, or none where one had failed
 module _ (c r s q n m k : ℕ) (same : k ≡ n) (more : m ≡ n + 1) where

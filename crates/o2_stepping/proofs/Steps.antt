@@ -13,7 +13,8 @@ use Rattle.o2_gate.specs.Befores.{before_call}
 use Rattle.o2_run.specs.declared.steps.Stop.TheVariants as stop
 use Rattle.o2_run.specs.declared.fault.Fault.{Fault}
 use Rattle.o2_run.specs.declared.fault.Fault.TheVariants as fault
-use Rattle.o2_run.specs.Pieces.{Counts, counts, PartHands}
+use Rattle.o2_run.specs.Pieces.{Counts, counts, told_counts}
+use Rattle.o2_stepping.specs.Pieces.{AttemptPart}
 use Rattle.o2_base.specs.declared.selector.Selector.{Selector}
 use Rattle.o2_swapmap.specs.Piles.{all_of}
 use Rattle.o2_store.specs.Loads.{live_load, swap_load}
@@ -54,12 +55,19 @@ module _ (a b : ℕ → List ℕ) (s t : Shelf) (m n : Maps) (pid : ℕ) (c : Cp
       (subst (λ (z : Option (List ℕ)). let e = before_in b t n pid d bytes known in Tries e (effect e) new (bytes_with b t) after i' j x' y z q result) report h)))
 
   pub part_from : (d : Cpu) → d ≡ c → (k : Counts) (result : Result Attempt Fault)
-      → PartHands (effect (before_in b t n pid d bytes known)) k result → PartHands (effect (before_in a s m pid c bytes known)) k result
-  part_from d e k result h = subst (λ (z : Before). PartHands (effect z) k result) (first_from d e) h
+      → AttemptPart (effect (before_in b t n pid d bytes known)) k result → AttemptPart (effect (before_in a s m pid c bytes known)) k result
+  part_from d e k result h = subst (λ (z : Before). AttemptPart (effect z) k result) (first_from d e) h
 
 -- counts from where both sinks had been handed as many
 pub counts_from : (P : Counts → Type 0) (c d r q : ℕ) {x y : ℕ} → x ≡ c → y ≡ r → P (counts x d y q 0) → P (counts c d r q 0)
 counts_from P c d r q {x} e f h = subst (λ (z : ℕ). P (counts z d r q 0)) e (subst (λ (z : ℕ). P (counts x d z q 0)) f h)
+
+-- the same, and where the report had taken as much
+pub told_from : (P : Counts → Type 0) (c d r q : ℕ) (t u : Option (List ℕ)) {x y : ℕ} {s : Option (List ℕ)} → x ≡ c → y ≡ r → s ≡ t → P (told_counts x d y q 0 s u) → P (told_counts c d r q 0 t u)
+told_from P c d r q t u {x} {y} {s} e f g h =
+    subst (λ (z : ℕ). P (told_counts z d r q 0 t u)) e
+    (subst (λ (z : ℕ). P (told_counts x d z q 0 t u)) f
+    (subst (λ (z : Option (List ℕ)). P (told_counts x d y q 0 z u)) g h))
 
 -- where a step was missed, or is done
 pub missed_at : (P : Selector → Type 0) (x : Attempt) (s : Selector) → x ≡ attempt.Missed s → OnMissed (Ok x) P → P s

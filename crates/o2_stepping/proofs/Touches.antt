@@ -125,6 +125,7 @@ module _ (f : Filling) (v : View) (c : Cpu) (number : ℕ) (input : List ℕ) (k
     hold = m.hold;
     found_it = m.found_it;
     absent = m.absent;
+    whole = m.whole;
     named = in_front m.hold.name (step_names (state c (boundless f v))) _ (sym (ap (is_in m.hold.name) loads_same) ∙ m.named);
   }
 
@@ -149,6 +150,7 @@ module _ (f : Filling) (v : View) (c : Cpu) (number : ℕ) (input : List ℕ) (k
       hold = m.hold;
       found_it = m.found_it;
       absent = m.absent;
+      whole = m.whole;
       named = in_back m.hold.name (step_names (state c (boundless f v))) _ (sym (ap (is_in m.hold.name) names_of_call) ∙ m.named);
     }
 

@@ -23,7 +23,8 @@ use Rattle.o2_gate.specs.Pointed.{ArePresent}
 use Rattle.o2_run.specs.declared.steps.Stop.TheVariants as stop
 use Rattle.o2_run.specs.declared.fault.Fault.{Fault}
 use Rattle.o2_run.specs.declared.fault.Fault.TheVariants as fault
-use Rattle.o2_run.specs.Pieces.{Counts, PartHands}
+use Rattle.o2_run.specs.Pieces.{Counts}
+use Rattle.o2_stepping.specs.Pieces.{AttemptPart}
 use Rattle.o2_run.specs.Room.{seated, touched}
 use Rattle.o2_run.specs.Faults.{CauseOf}
 use Rattle.o2_stepping.specs.Ran.{AttemptFor, IsStill, Leaves, OnMissed, is_missed}
@@ -74,8 +75,8 @@ module _ (a b d : ℕ → List ℕ) (s t u : Shelf) (m n : Maps) (pid : ℕ) (c 
       (subst (λ (f : ℕ → List ℕ). Leaves (before_in b t n pid c bytes known) (effect (before_in b t n pid c bytes known)) new (bytes_with b t) f i j x y r q result) (fun_ext now) h)))
 
   -- what a sink's fault leaves
-  pub part_first : (k : Counts) (result : Result Attempt Fault) → PartHands (effect (before_in b t n pid c bytes known)) k result → PartHands (effect (before_in a s m pid c bytes known)) k result
-  part_first k result h = subst (λ (z : Before). PartHands (effect z) k result) first_step h
+  pub part_first : (k : Counts) (result : Result Attempt Fault) → AttemptPart (effect (before_in b t n pid c bytes known)) k result → AttemptPart (effect (before_in a s m pid c bytes known)) k result
+  part_first k result h = subst (λ (z : Before). AttemptPart (effect z) k result) first_step h
 
   -- What was missed.
 
@@ -169,7 +170,7 @@ no_step P (fault.Stopped stop.NoRoom) p = p
 no_step P (fault.Stopped stop.SwapFull) p = p
 no_step P (fault.Stopped stop.SwapFault) p = p
 
-pub stop_part : (e : Effect) (n : Counts) (f : Fault) → IsSwapStop f → PartHands {T = Attempt} e n (Err f)
+pub stop_part : (e : Effect) (n : Counts) (f : Fault) → IsSwapStop f → AttemptPart e n (Err f)
 stop_part e n fault.Sink s = absurd s
 stop_part e n (fault.Stopped why) s = tt
 

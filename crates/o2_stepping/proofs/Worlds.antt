@@ -1,5 +1,5 @@
 -- What the boundless machine sees of a process stays where segments keep their bytes and processes what they hold.
-use Rattle.std.proofs.Common.{◌≡◌, ℕ, ◌+◌, ◌<◌, ◌≤◌, Bool, true, false, cond, List, [], length, get_or, Option, Some, None, is_some, ap, sym, ◌∙◌, refl, arith}
+use Rattle.std.proofs.Common.{◌≡◌, ℕ, ◌+◌, ◌<◌, ◌≤◌, Bool, true, cond, List, [], length, get_or, Option, Some, None, is_some, ap, sym, ◌∙◌, refl, arith}
 use Rattle.std.specs.Prelude.{map, option_map, IsTrue}
 use Rattle.std.specs.List.{range_with_len}
 use Rattle.std.proofs.lemmas.List.{ext_get_or}
@@ -14,7 +14,7 @@ use Rattle.o2_regions.specs.Maps.{Maps, held_at}
 use Rattle.o2_store.specs.Pictures.{picture}
 use Rattle.o2_store.specs.Shelf.{Shelf, Pictures, SameTables, KeepsAll, byte_at, byte_in, entry, out_byte, place_of}
 use Rattle.o2_segbus.specs.Bus.{AreInside}
-use Rattle.o2_segbus.specs.Seen.{bytes_from, bytes_in, bytes_under, hold_in, hold_of, key_of, present_in, present_under, seen, seen_with, size_in, size_under}
+use Rattle.o2_segbus.specs.Seen.{bytes_from, bytes_in, bytes_under, gone_in, hold_in, hold_of, key_of, present_in, present_under, seen, seen_with, size_in, size_under}
 use Rattle.o2_segbus.specs.Frames.{KeepsStore}
 use Rattle.o2_segbus.proofs.Keeping.{presence_stays}
 use Rattle.o2_stands.proofs.Moves.{same_keys}
@@ -23,6 +23,7 @@ use Rattle.o2_gate.specs.Pointed.{ArePresent}
 use Rattle.o2_stands.specs.Parts.{away_in, away_under}
 use Rattle.o2_stepping.specs.Shapes.{SameHolds}
 use Rattle.o2_stepping.specs.Worlds.{bytes_with, parts_of, world_view}
+use Rattle.o2_stepping.proofs.Wholes.{marks_stay}
 
 -- What is held.
 
@@ -121,27 +122,31 @@ pub registers_are : (away : ℕ → List ℕ) (s : Shelf) (m : Maps) (pid : ℕ)
 unfolding seen_with
 registers_are away s m pid c = refl
 
-abbrev pub shown : Cpu → (ℕ → Option Hold) → (ℕ → ℕ) → (ℕ → List ℕ) → View
-shown c holds sizes bytes = record {
+abbrev pub shown : Cpu → (ℕ → Option Hold) → (ℕ → ℕ) → (ℕ → Bool) → (ℕ → List ℕ) → View
+shown c holds sizes marks bytes = record {
   held = holds;
   gate = built_gates;
   size = sizes;
   present = λ n. true;
-  discarded = λ n. false;
+  discarded = marks;
   bytes = bytes;
   registers = bound_registers holds c;
   rest = no_rest;
   hidden = no_hidden;
 }
 
-shown_same : (c : Cpu) (h g : ℕ → Option Hold) → h ≡ g → (x y : ℕ → ℕ) → x ≡ y → (b d : ℕ → List ℕ) → b ≡ d → shown c h x b ≡ shown c g y d
-shown_same c h g p x y q b d r = ap (λ (z : ℕ → Option Hold). shown c z x b) p ∙ ap (λ (z : ℕ → ℕ). shown c g z b) q ∙ ap (λ (z : ℕ → List ℕ). shown c g y z) r
+shown_same : (c : Cpu) (h g : ℕ → Option Hold) → h ≡ g → (x y : ℕ → ℕ) → x ≡ y → (k l : ℕ → Bool) → k ≡ l → (b d : ℕ → List ℕ) → b ≡ d → shown c h x k b ≡ shown c g y l d
+shown_same c h g p x y q k l m b d r =
+    ap (λ (z : ℕ → Option Hold). shown c z x k b) p
+    ∙ (ap (λ (z : ℕ → ℕ). shown c g z k b) q
+    ∙ (ap (λ (z : ℕ → Bool). shown c g y z b) m
+    ∙ ap (λ (z : ℕ → List ℕ). shown c g y l z) r))
 
 pub view_same : (old now : ℕ → List ℕ) (s t : Shelf) (m n : Maps) (pid : ℕ) (c : Cpu) → SameTables s t → SameHolds m n
     → ((name : ℕ) → bytes_with now t name ≡ bytes_with old s name) → world_view now t n pid c ≡ world_view old s m pid c
 unfolding seen_with
 view_same old now s t m n pid c tables holds bytes =
-    shown_same c (hold_in n pid) (hold_in m pid) (same_map m n pid holds) (size_in t) (size_in s) (sizes_same s t tables) (bytes_with now t) (bytes_with old s) (fun_ext bytes)
+    shown_same c (hold_in n pid) (hold_in m pid) (same_map m n pid holds) (size_in t) (size_in s) (sizes_same s t tables) (gone_in t) (gone_in s) (fun_ext (marks_stay s t tables)) (bytes_with now t) (bytes_with old s) (fun_ext bytes)
 
 pub seen_present : (s : Shelf) (m : Maps) (pid : ℕ) (c : Cpu) (names : List ℕ) → ArePresent (seen s m pid c) names → (n : ℕ) → is_in n names ≡ true → present_in s n ≡ true
 unfolding seen_with

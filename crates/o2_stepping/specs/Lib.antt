@@ -8,5 +8,6 @@ pub mod Taken
 pub mod Pieces
 pub mod Nexts
 pub mod Goings
+pub mod Seated
 pub mod Here
 pub mod Replied

@@ -1,5 +1,5 @@
 -- What a step needs in the memory of a store.
-use Rattle.std.specs.Prelude.{◌≡◌, ℕ, ◌+◌, List, [], ◌∷◌, ◌++◌, length, map, ◌||◌, nat_lt, if◌then◌else◌, Option, Some, None, true, false}
+use Rattle.std.specs.Prelude.{◌≡◌, ℕ, ◌+◌, List, [], ◌∷◌, ◌++◌, length, map, filter, not, ◌||◌, nat_lt, if◌then◌else◌, Option, Some, None, true, false}
 use Rattle.o2_base.specs.declared.selector.Selector.{Selector}
 use Rattle.o2_isa.specs.View.{Registers}
 use Rattle.o2_service.specs.Needs.{needs}
@@ -11,6 +11,7 @@ use Rattle.o2_regions.specs.declared.held.Held.{Held}
 use Rattle.o2_regions.specs.Maps.{Maps}
 use Rattle.o2_store.specs.Shelf.{Shelf, entry, rounded}
 use Rattle.o2_segbus.specs.Bus.{held_under}
+use Rattle.o2_segbus.specs.Seen.{gone_in}
 use Rattle.o2_world.specs.Calls.{Before}
 use Rattle.o2_gate.specs.declared.arguments.Arguments.{Arguments}
 use Rattle.o2_gate.specs.Targets.{targets}
@@ -20,6 +21,10 @@ use Rattle.o2_world.specs.Slots.{Pointer}
 -- the names that a step needs, as far as they are known before it: those in the segment registers, and those that it touches
 abbrev pub needed_names : Before → List ℕ
 needed_names b = seated b.view.registers ++ touched b
+
+-- those of the names whose segments weren't discarded
+abbrev pub whole_names : Shelf → List ℕ → List ℕ
+whole_names s names = filter (λ n. not (gone_in s n)) names
 
 -- what a segment takes of the memory that is locked or has one of these names
 abbrev pub room_at : Shelf → List ℕ → ℕ → ℕ

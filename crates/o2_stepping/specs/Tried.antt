@@ -12,8 +12,9 @@ use Rattle.o2_gate.specs.declared.state.State.{State as Services}
 use Rattle.o2_gate.specs.Befores.{before_call, IsKnown}
 use Rattle.o2_gate.specs.Pointed.{ArePresent}
 use Rattle.o2_run.specs.declared.fault.Fault.{Fault}
-use Rattle.o2_run.specs.Pieces.{Counts, PartHands}
+use Rattle.o2_run.specs.Pieces.{Counts}
 use Rattle.o2_run.specs.Room.{touched}
+use Rattle.o2_stepping.specs.Pieces.{AttemptPart}
 use Rattle.o2_stepping.specs.Ran.{Leaves, OnMissed, OnUndone, is_missed}
 use Rattle.o2_stepping.specs.Worlds.{bytes_with, world_view}
 use Rattle.o2_stepping.specs.declared.one_step.Attempt.{Attempt}
@@ -41,4 +42,4 @@ pub record PartTried (s : Shelf) (m : Maps) (seat number : ℕ) (before : Cpu) (
     (told : Option (List ℕ)) (past_old past_new : Past) (n : Counts) (result : Result Attempt Fault) : Type 0 where
   pub part : (text : Option (List ℕ)) → IsSeenAs text past_new → (away : ℕ → List ℕ) (bytes : List ℕ) (known : Known)
       → left_as text told past_old ≡ Some bytes → IsKnown known services
-      → PartHands (effect (before_call (world_view away s m seat before) number before bytes known)) n result
+      → AttemptPart (effect (before_call (world_view away s m seat before) number before bytes known)) n result

@@ -11,26 +11,27 @@ ghost use Rattle.o2_store.specs.Frames.{KeepsDevice};
 ghost use Rattle.o2_store.specs.Loads.{live_load, swap_load};
 ghost use Rattle.o2_segbus.specs.Frames.{CanStep};
 ghost use Rattle.o2_segbus.specs.Seen.{hold_in, present_in, seen};
-ghost use Rattle.o2_service.specs.Needs.{AreLive, OnlyNeededComes, Stays, all_needed};
+ghost use Rattle.o2_service.specs.Needs.{AreLive, AreWhole, OnlyNeededComes, Stays, all_needed};
 ghost use Rattle.o2_stands.specs.Stands.{IsReady};
 ghost use Rattle.o2_world.specs.Known.{Known};
 ghost use Rattle.o2_world.specs.Effect.{effect};
 ghost use Rattle.o2_gate.specs.Befores.{IsKnown};
 ghost use Rattle.o2_gate.specs.Targets.{targets};
 ghost use Rattle.o2_gate.specs.Pointed.{ArePresent, are_ready};
-ghost use Rattle.o2_run.specs.Pieces.{PartHands, counts};
+ghost use Rattle.o2_run.specs.Pieces.{counts, told_counts};
 ghost use Rattle.o2_run.specs.Room.{touched};
 ghost use Rattle.o2_stepping.specs.Goings.{GoForRoom, OnlyNamedCome};
-ghost use Rattle.o2_stepping.specs.Pieces.{AttemptHands, StepHands};
+ghost use Rattle.o2_stepping.specs.Pieces.{AttemptHands, AttemptPart, StepHands, StepPart};
 ghost use Rattle.o2_stepping.specs.Ran.{OnAsked, OnMissed, OnUndone};
-ghost use Rattle.o2_stepping.specs.Rooms.{AreNeeded, IsWanted, ages_of, all_names, needed_names, room_in, seated_in};
+ghost use Rattle.o2_stepping.specs.Rooms.{AreNeeded, IsWanted, ages_of, all_names, needed_names, room_in, seated_in, whole_names};
+ghost use Rattle.o2_stepping.specs.Seated.{HasWholeSeats, IsWholeUnder};
 ghost use Rattle.o2_stepping.specs.Shapes.{SameShape};
 ghost use Rattle.o2_stepping.specs.Taken.{IsSwapStop, OnAsks, OnDone, OnErr, OnNoStep, OnRan, OnBegun, OnSwapStop, SteppedFor, Takes, TriedFor, Tries};
 ghost use Rattle.o2_stepping.specs.Worlds.{away_of, before_in, bytes_with, parts_of};
 ghost use Rattle.o2_store.specs.Idle.{Idles};
 
 use crate::one_step::{Attempt, Stepped};
-use crate::seats::{add_missed, are_here, seats};
+use crate::seats::{add_missed, are_here, may_serve, seats};
 use crate::trying::try_step;
 use o2_cache::DecodeCache;
 use o2_gate::State as Services;
@@ -55,6 +56,7 @@ fn bring<S: SwapDevice>(
     requires process { IsProcess regions.old pid }
     requires ready { IsReady (parts_of store.old regions.old images.now (S.blocks swap.old) (S.block swap.old)) }
     requires live { AreLive store.old need.now }
+    requires whole { AreWhole store.old need.now }
     requires seats { AreNeeded need.now (seated_in regions.old pid cpu.now) }
     ensures bytes { IsTrue (S.told swap.new) → (n : ℕ)
         → bytes_with (away_of store.new regions.new images.now (S.blocks swap.new) (S.block swap.new)) store.new n
@@ -95,6 +97,7 @@ fn bring_in<S: SwapDevice>(
     requires process { IsProcess regions.old pid }
     requires ready { IsReady (parts_of store.old regions.old images.now (S.blocks swap.old) (S.block swap.old)) }
     requires live { AreLive store.old need.now }
+    requires whole { AreWhole store.old need.now }
     requires seats { AreNeeded need.now (seated_in regions.old pid cpu.now) }
     requires can_step { here ≡ true → CanStep store.old regions.old pid cpu.now }
     requires here { here ≡ true → (n : ℕ) → is_in n (ages_of need.now) ≡ true → present_in store.old n ≡ true }
@@ -149,6 +152,7 @@ fn serve_and_try<S: SwapDevice, I: Source, C: Sink, R: Sink>(
     requires process { IsProcess regions.old pid }
     requires ready { IsReady (parts_of store.old regions.old images.now (S.blocks swap.old) (S.block swap.old)) }
     requires live { AreLive store.old need.now }
+    requires whole { AreWhole store.old need.now }
     requires seats { AreNeeded need.now (seated_in regions.old pid cpu.old) }
     requires can_step { here ≡ true → CanStep store.old regions.old pid cpu.old }
     requires here { here ≡ true → (n : ℕ) → is_in n (ages_of need.now) ≡ true → present_in store.old n ≡ true }
@@ -191,6 +195,7 @@ fn serve_and_try<S: SwapDevice, I: Source, C: Sink, R: Sink>(
     ensures shape { SameShape store.old regions.old store.new regions.new }
     ensures ready { IsReady (parts_of store.new regions.new images.now (S.blocks swap.new) (S.block swap.new)) }
     ensures next { OnRan result (CanStep store.new regions.new pid cpu.new) }
+    ensures whole { OnMissed result (λ z. IsWholeUnder store.new regions.new pid z.0) }
     ensures avail { services.new.avail ≡ services.old.avail }
     ensures device { (S.blocks swap.new ≡ S.blocks swap.old) × (IsTrue (S.told swap.new) → IsTrue (S.told swap.old)) }
 
@@ -209,7 +214,8 @@ fn serve_and_try<S: SwapDevice, I: Source, C: Sink, R: Sink>(
     ensures part { (text : Option (List ℕ)) → IsSeenAs text (I.past input.new) → (bytes : List ℕ) (known : Known)
         → IsTrue (S.told swap.new) → left_as text (I.left input.old) (I.past input.old) ≡ Some bytes → IsKnown known services.old
         → let b = before_in (away_of store.old regions.old images.now (S.blocks swap.old) (S.block swap.old)) store.old regions.old pid cpu.old bytes known in
-        PartHands (effect b) (counts (C.puts console.old) (C.puts console.new) (R.puts report.old) (R.puts report.new) 0) result }
+        AttemptPart (effect b) (told_counts (C.puts console.old) (C.puts console.new) (R.puts report.old) (R.puts report.new) 0
+        (R.taken report.old) (R.taken report.new)) result }
 {
     match bring_in(here, need, pid, cpu, store, regions, images, swap) {
         Ok(()) => {}
@@ -225,8 +231,9 @@ fn serve_and_try<S: SwapDevice, I: Source, C: Sink, R: Sink>(
 /// it is known, and the step is tried; what it misses is needed too, and it is tried again. A try that misses puts nothing and
 /// takes nothing. What is known to be needed stays in memory from one try to the next, and no more leaves than must.
 ///
-/// Where what it needs doesn't come in, the step isn't taken: `Stop::NoRoom`, `Stop::SwapFull` or `Stop::SwapFault`. A call on
-/// segments isn't made yet: it is asked for, with all that it needs beside its own segment in memory.
+/// Where what it needs doesn't come in, the step isn't taken: `Stop::NoRoom`, `Stop::SwapFull` or `Stop::SwapFault`. `Stop::NoRoom` comes
+/// also where a segment register names what was discarded, which never comes in; no step leaves one so. A call on segments isn't made
+/// yet: it is asked for, with all that it needs beside its own segment in memory.
 pub fn step_in_store<S: SwapDevice, I: Source, C: Sink, R: Sink>(
     pid: u16,
     cpu: &mut Cpu,
@@ -267,7 +274,8 @@ pub fn step_in_store<S: SwapDevice, I: Source, C: Sink, R: Sink>(
         × (input.new ≡ input.old) × (console.new ≡ console.old) × (report.new ≡ report.old)) }
     ensures aimed { OnAsks result (λ a. are_ready (seen store.new regions.new pid cpu.new) (targets a) ≡ true) }
 
-    // All that a step needs is in memory together, so that its room is at most the memory; and more than it at NoRoom.
+    // All that a step needs is in memory together, so that its room is at most the memory; and more than it at NoRoom, where what was
+    // discarded doesn't count and no segment register names it.
     ensures together { (bytes : List ℕ) (known : Known) → IsTrue (S.told swap.new)
         → let b = before_in (away_of store.old regions.old images.now (S.blocks swap.old) (S.block swap.old)) store.old regions.old pid cpu.old bytes known in
         OnDone result (ArePresent (seen store.new regions.new pid cpu.new) (all_names b (bound_registers (hold_in regions.new pid) cpu.new))) }
@@ -277,9 +285,9 @@ pub fn step_in_store<S: SwapDevice, I: Source, C: Sink, R: Sink>(
     ensures room_in_part { (bytes : List ℕ) (known : Known) → IsTrue (S.told swap.new)
         → let b = before_in (away_of store.old regions.old images.now (S.blocks swap.old) (S.block swap.old)) store.old regions.old pid cpu.old bytes known in
         OnBegun result (room_in store.old (all_names b (bound_registers (hold_in regions.new pid) cpu.new)) ≤ store.old.places.size) }
-    ensures no_room { (bytes : List ℕ) (known : Known) → IsTrue (S.told swap.new)
+    ensures no_room { HasWholeSeats store.old regions.old pid cpu.old → (bytes : List ℕ) (known : Known) → IsTrue (S.told swap.new)
         → let b = before_in (away_of store.old regions.old images.now (S.blocks swap.old) (S.block swap.old)) store.old regions.old pid cpu.old bytes known in
-        OnSwapStop result (store.old.places.size < room_in store.old (needed_names b)) (Unit {0}) (Unit {0}) }
+        OnSwapStop result (store.old.places.size < room_in store.old (whole_names store.old (needed_names b))) (Unit {0}) (Unit {0}) }
     // Over all its tries nothing comes into memory that it doesn't need, and none leaves that could have stayed.
     ensures only { (bytes : List ℕ) (known : Known) → IsTrue (S.told swap.new)
         → let b = before_in (away_of store.old regions.old images.now (S.blocks swap.old) (S.block swap.old)) store.old regions.old pid cpu.old bytes known in
@@ -304,15 +312,19 @@ pub fn step_in_store<S: SwapDevice, I: Source, C: Sink, R: Sink>(
     ensures console_count { C.faults console.old ≤ C.faults console.new }
     ensures report_count { R.faults report.old ≤ R.faults report.new }
 
-    // Each line is one put, and so is the piece where it has bytes. Where a sink fails, no more lines were put than there are.
+    // Each line is one put, and so is the piece where it has bytes. Where a line failed, those in front of it were put whole.
     ensures puts { StepHands (counts (C.puts console.old) (C.puts console.new) (R.puts report.old) (R.puts report.new) 0) result }
     ensures part { (text : Option (List ℕ)) → IsSeenAs text (I.past input.new) → (bytes : List ℕ) (known : Known)
         → IsTrue (S.told swap.new) → left_as text (I.left input.old) (I.past input.old) ≡ Some bytes → IsKnown known services.old
         → let b = before_in (away_of store.old regions.old images.now (S.blocks swap.old) (S.block swap.old)) store.old regions.old pid cpu.old bytes known in
-        PartHands (effect b) (counts (C.puts console.old) (C.puts console.new) (R.puts report.old) (R.puts report.new) 0) result }
+        StepPart (effect b) (told_counts (C.puts console.old) (C.puts console.new) (R.puts report.old) (R.puts report.new) 0
+        (R.taken report.old) (R.taken report.new)) result }
 {
     let mut need = seats(regions, pid, cpu);
     let mut here = are_here(regions, pid, cpu);
+    if !may_serve(here, store, regions, pid, cpu) {
+        return Err(Fault::Stopped(Stop::NoRoom));
+    }
     'tries: loop {
         match serve_and_try(
             here, &need, pid, cpu, store, regions, images, cache, services, input, console, report,

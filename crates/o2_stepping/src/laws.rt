@@ -13,9 +13,10 @@ ghost use Rattle.o2_store.specs.Loads.{live_load, swap_load};
 ghost use Rattle.o2_swapmap.specs.Piles.{all_of};
 ghost use Rattle.o2_world.specs.Effect.{effect};
 ghost use Rattle.o2_world.specs.Known.{known_of};
+ghost use Rattle.o2_world.specs.Run.{words_coming};
 ghost use Rattle.o2_world.specs.World.{Process, Setting, World};
 ghost use Rattle.o2_stepping.specs.Nexts.{IsNext, next_start};
-ghost use Rattle.o2_stepping.specs.Rooms.{all_names, needed_names, room_in};
+ghost use Rattle.o2_stepping.specs.Rooms.{all_names, needed_names, room_in, whole_names};
 ghost use Rattle.o2_stepping.specs.Shapes.{SameHolds};
 ghost use Rattle.o2_stepping.specs.Worlds.{away_of, before_in};
 
@@ -27,8 +28,9 @@ pub fn steps_start_alike()
 
 /// Where what a step that changes nothing but bytes needed in a store, behind it, is no more than the memory, the world's next
 /// step fits, also where a sink failed in it, which leaves the segment registers as they were; where what any step needs is
-/// more, as far as that is known before it, the room of that step is more than the memory of the setting. Where the store's
-/// load is more than its blocks, and all that lives more than its memory, so it is in the world.
+/// more, as far as that is known before it and without what was discarded, the room of that step is more than the memory of the setting.
+/// Where the store's load is more than its blocks, and all that lives more than its memory, so it is in the world before whose next step
+/// no word comes.
 pub fn rooms_are_those_of_the_world()
     ensures fits { (p : Parts) (s : Setting) (w : World) (q : Process) (m : Maps) (c : CpuThere) → IsNext p s w q
         → SameHolds p.maps m → let b = next_start s w q in c ≡ (effect b).cpu → (effect b).changes ≡ []
@@ -39,8 +41,8 @@ pub fn rooms_are_those_of_the_world()
         → room_in p.shelf (all_names b (bound_registers (hold_in m b.number) c)) ≤ p.shelf.places.size
         → Fits true s w }
     ensures lacks { (p : Parts) (s : Setting) (w : World) (q : Process) → IsNext p s w q
-        → p.shelf.places.size < room_in p.shelf (needed_names (next_start s w q)) → s.memory < room s w }
+        → p.shelf.places.size < room_in p.shelf (whole_names p.shelf (needed_names (next_start s w q))) → s.memory < room s w }
     ensures full { (p : Parts) (s : Setting) (w : World) → AreLawful p.shelf p.maps → IsSetTo p s → Stands p w
-        → (all_of p.shelf.swap < swap_load p.shelf) × (p.shelf.places.size < live_load p.shelf)
+        → words_coming w ≡ 0 → (all_of p.shelf.swap < swap_load p.shelf) × (p.shelf.places.size < live_load p.shelf)
         → IsSwapFull p.device s w }
 {}

@@ -13,5 +13,5 @@ pub use in_store::step_in_store;
 pub use laws::{rooms_are_those_of_the_world, steps_start_alike};
 pub use one_step::{Attempt, Ran, Stepped, absent, has_trap_flag, run_one};
 pub use replying::reply;
-pub use seats::{are_here, call_need};
+pub use seats::{are_here, call_need, named_segment};
 pub use tally::Tally;

@@ -20,8 +20,8 @@ ghost use Rattle.o2_run.specs.Room.{call_names, touched};
 ghost use Rattle.o2_gate.specs.Called.{IsMade};
 ghost use Rattle.o2_bus.specs.Writes.{WritesHeld};
 ghost use Rattle.o2_stepping.specs.Ran.{Leaves, AttemptFor, RanFor, OnAsked, OnMissed, OnUndone, TellsTried, is_missed};
-ghost use Rattle.o2_run.specs.Pieces.{Counts, counts, Hands, SinkHands, PartHands, puts_of};
-ghost use Rattle.o2_stepping.specs.Pieces.{RanHands, AttemptHands};
+ghost use Rattle.o2_run.specs.Pieces.{counts, told_counts, Hands, puts_of};
+ghost use Rattle.o2_stepping.specs.Pieces.{AttemptHands, AttemptPart, RanHands};
 
 use crate::tally::Tally;
 use o2_alu::is_set;
@@ -106,7 +106,8 @@ fn trap<R: Sink>(
     ensures count { R.faults report.old ≤ R.faults report.new }
     ensures cause { AttemptFor (Rose (R.faults report.old) (R.faults report.new)) ⊥ result }
     ensures puts { (c : ℕ) → AttemptHands (counts c c (R.puts report.old) (R.puts report.new) 0) result }
-    ensures part { (c : ℕ) → SinkHands 0 1 (counts c c (R.puts report.old) (R.puts report.new) 0) result }
+    ensures part { (e : Effect) (c : ℕ) → e.piece ≡ [] → e.lines ≡ Traps pid vector cpu.now.cs cpu.now.ip ∷ []
+        → AttemptPart e (told_counts c c (R.puts report.old) (R.puts report.new) 0 (R.taken report.old) (R.taken report.new)) result }
 {
     match put_trap(line, pid, vector, cpu, report) {
         Put::Failed => Err(Fault::Sink),
@@ -135,7 +136,10 @@ fn outlived<R: Sink>(
     ensures cause { AttemptFor (Rose (R.faults report.old) (R.faults report.new)) ⊥ result }
     ensures puts { (c d r : ℕ) → Hands (counts c d r (R.puts report.old) 0) (puts_of tally.bytes) tally.lines
         → AttemptHands (counts c d r (R.puts report.new) 0) result }
-    ensures part { (bytes lines : ℕ) (n : Counts) → SinkHands bytes lines n result }
+    ensures part { (f : Filling) (b : Before) (e : Effect) (cpu : Cpu) (new : View) (j c d r : Option (List ℕ)) (k l m : ℕ) → b.number ≡ pid → b.cpu ≡ before.now
+        → IsMade f e State.Live tally.bytes tally.lines cpu new j c d r (R.taken report.old)
+        → Hands (counts k l m (R.puts report.old) 0) (puts_of tally.bytes) tally.lines
+        → AttemptPart (single_stepped b e) (told_counts k l m (R.puts report.new) 0 r (R.taken report.new)) result }
 {
     if !has_trap_flag(before.flags) {
         return Ok(Attempt::Stepped(Stepped::Ran(Ran {
@@ -235,16 +239,18 @@ pub fn run_one<B: Ranges, I: Source, C: Sink, R: Sink>(
     ensures report_count { R.faults report.old ≤ R.faults report.new }
     ensures cause { AttemptFor (Rose (C.faults console.old) (C.faults console.new) ⊎ Rose (R.faults report.old) (R.faults report.new))
         (Rose (I.faults input.old) (I.faults input.new)) result }
-    // Each line is one put, and so is the piece where it has bytes. Where a sink fails, no more lines were put than there are.
+    // Each line is one put, and so is the piece where it has bytes. Where a line failed, those in front of it were put whole.
     ensures puts { AttemptHands (counts (C.puts console.old) (C.puts console.new) (R.puts report.old) (R.puts report.new) 0) result }
     ensures part { (f : Filling) (bytes : List ℕ) (known : Known) → IsBound (B.view bus.old) → I.left input.old ≡ Some bytes → IsKnown known services.old
-        → PartHands (effect (before_call (boundless f (B.view bus.old)) pid cpu.old bytes known))
-        (counts (C.puts console.old) (C.puts console.new) (R.puts report.old) (R.puts report.new) 0) result }
+        → AttemptPart (effect (before_call (boundless f (B.view bus.old)) pid cpu.old bytes known))
+        (told_counts (C.puts console.old) (C.puts console.new) (R.puts report.old) (R.puts report.new) 0
+        (R.taken report.old) (R.taken report.new)) result }
     ensures part_as { (text : Option (List ℕ)) → IsSeenAs text (I.past input.new)
         → (f : Filling) (bytes : List ℕ) (known : Known) → IsBound (B.view bus.old)
         → left_as text (I.left input.old) (I.past input.old) ≡ Some bytes → IsKnown known services.old
-        → PartHands (effect (before_call (boundless f (B.view bus.old)) pid cpu.old bytes known))
-        (counts (C.puts console.old) (C.puts console.new) (R.puts report.old) (R.puts report.new) 0) result }
+        → AttemptPart (effect (before_call (boundless f (B.view bus.old)) pid cpu.old bytes known))
+        (told_counts (C.puts console.old) (C.puts console.new) (R.puts report.old) (R.puts report.new) 0
+        (R.taken report.old) (R.taken report.new)) result }
 {
     let before = *cpu;
     match step_cached(cpu, bus, cache) {

@@ -5,7 +5,7 @@ ghost use Rattle.o2_world.specs.Text.{lines_text};
 ghost use Rattle.o2_gate.specs.declared.arguments.Arguments.{Arguments as ArgumentsThere};
 ghost use Rattle.o2_gate.specs.MovedLines.{AreInside, line_number};
 ghost use Rattle.o2_gate.specs.Replies.{IsValue, lines_of};
-ghost use Rattle.o2_run.specs.Pieces.{counts};
+ghost use Rattle.o2_run.specs.Pieces.{counts, FailsInLine};
 ghost use Rattle.o2_stepping.specs.Pieces.{HandsWhole};
 ghost use Rattle.o2_stepping.specs.Ran.{TakesText};
 ghost use Rattle.o2_stepping.specs.Replied.{state_behind, trap_lines};
@@ -56,6 +56,8 @@ fn put_lines<R: Sink>(
         (lines_text (lines_of arguments pid answer.now.error answer.now.value moves.now)) }
     ensures puts { (c : ℕ) → HandsWhole result (counts c c (R.puts report.old) (R.puts report.new) 0) 0
         (length (lines_of arguments pid answer.now.error answer.now.value moves.now)) }
+    ensures line { result ≡ false → FailsInLine (lines_of arguments pid answer.now.error answer.now.value moves.now)
+        (R.taken report.old) (R.taken report.new) (R.puts report.old) (R.puts report.new) }
     ensures count { R.faults report.old ≤ R.faults report.new }
     ensures cause { result ≡ false → Rose (R.faults report.old) (R.faults report.new) }
 {
@@ -93,6 +95,10 @@ pub fn reply<R: Sink>(
     ensures report { TakesText result.whole (R.taken report.old) (R.taken report.new)
         (lines_text (lines_of arguments pid answer.now.error answer.now.value moves.now ++ trap_lines pid before.now)) }
     ensures puts { (c : ℕ) → HandsWhole result.whole (counts c c (R.puts report.old) (R.puts report.new) 0) 0 result.tally.lines }
+    // Where one failed, those in front of it were put whole.
+    ensures line { result.whole ≡ false
+        → FailsInLine (lines_of arguments pid answer.now.error answer.now.value moves.now ++ trap_lines pid before.now)
+        (R.taken report.old) (R.taken report.new) (R.puts report.old) (R.puts report.new) }
     ensures count { R.faults report.old ≤ R.faults report.new }
     ensures cause { result.whole ≡ false → Rose (R.faults report.old) (R.faults report.new) }
 {

@@ -6,11 +6,12 @@ ghost use Rattle.o2_isa.specs.View.{bound_registers};
 ghost use Rattle.o2_segbus.specs.Seen.{hold_in, seen};
 ghost use Rattle.o2_segbus.specs.Bus.{registers_of};
 ghost use Rattle.o2_segbus.specs.Frames.{CanStep, KeepsClean, KeepsMaps, KeepsStore};
-ghost use Rattle.o2_stepping.specs.Ran.{AttemptFor, OnAsked, OnUndone};
+ghost use Rattle.o2_stepping.specs.Ran.{AttemptFor, OnAsked, OnMissed, OnUndone};
+ghost use Rattle.o2_stepping.specs.Seated.{IsWholeUnder};
 ghost use Rattle.o2_gate.specs.Targets.{targets};
 ghost use Rattle.o2_gate.specs.Pointed.{are_ready};
 ghost use Rattle.o2_stepping.specs.Tried.{PartTried, TriesOver};
-ghost use Rattle.o2_run.specs.Pieces.{counts};
+ghost use Rattle.o2_run.specs.Pieces.{counts, told_counts};
 ghost use Rattle.o2_stepping.specs.Pieces.{AttemptHands};
 
 use crate::one_step::{Attempt, run_one};
@@ -50,6 +51,7 @@ fn try_in<I: Source, C: Sink, R: Sink>(
     ensures maps { KeepsMaps bus.old.regions.now bus.new.regions.now }
     ensures clean { KeepsClean bus.old.store.now bus.old.regions.now bus.new.store.now }
     ensures next { CanStep bus.new.store.now bus.new.regions.now bus.old.pid cpu.new }
+    ensures whole { OnMissed result (λ z. IsWholeUnder bus.old.store.now bus.old.regions.now bus.old.pid z.0) }
     ensures avail { services.new.avail ≡ services.old.avail }
     ensures input_count { I.faults input.old ≤ I.faults input.new }
     ensures console_count { C.faults console.old ≤ C.faults console.new }
@@ -59,7 +61,8 @@ fn try_in<I: Source, C: Sink, R: Sink>(
     ensures puts { AttemptHands (counts (C.puts console.old) (C.puts console.new) (R.puts report.old) (R.puts report.new) 0) result }
     ensures part { PartTried bus.old.store.now bus.old.regions.now bus.old.pid pid cpu.old services.old (I.left input.old)
         (I.past input.old) (I.past input.new)
-        (counts (C.puts console.old) (C.puts console.new) (R.puts report.old) (R.puts report.new) 0) result }
+        (told_counts (C.puts console.old) (C.puts console.new) (R.puts report.old) (R.puts report.new) 0
+        (R.taken report.old) (R.taken report.new)) result }
 {
     run_one(pid, cpu, bus, cache, services, input, console, report)
 }
@@ -93,6 +96,8 @@ pub(crate) fn try_step<I: Source, C: Sink, R: Sink>(
     ensures maps { KeepsMaps regions.old regions.new }
     ensures clean { KeepsClean store.old regions.old store.new }
     ensures next { CanStep store.new regions.new pid cpu.new }
+    // What is missed wasn't discarded.
+    ensures whole { OnMissed result (λ z. IsWholeUnder store.old regions.old pid z.0) }
     ensures avail { services.new.avail ≡ services.old.avail }
     ensures input_count { I.faults input.old ≤ I.faults input.new }
     ensures console_count { C.faults console.old ≤ C.faults console.new }
@@ -102,7 +107,8 @@ pub(crate) fn try_step<I: Source, C: Sink, R: Sink>(
     ensures puts { AttemptHands (counts (C.puts console.old) (C.puts console.new) (R.puts report.old) (R.puts report.new) 0) result }
     ensures part { PartTried store.old regions.old pid pid cpu.old services.old (I.left input.old)
         (I.past input.old) (I.past input.new)
-        (counts (C.puts console.old) (C.puts console.new) (R.puts report.old) (R.puts report.new) 0) result }
+        (told_counts (C.puts console.old) (C.puts console.new) (R.puts report.old) (R.puts report.new) 0
+        (R.taken report.old) (R.taken report.new)) result }
 {
     let mut bus = SegBus::new(store, regions, pid, cpu);
     try_in(pid, cpu, &mut bus, cache, services, input, console, report)

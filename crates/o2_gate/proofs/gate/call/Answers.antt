@@ -1,9 +1,9 @@
 -- The call by what was gathered, and by its service.
-use Rattle.std.proofs.Common.{◌≡◌, ℕ, ◌==◌, ◌&&◌, List, [], Some, true, not, ap, sym, ◌∙◌, subst, refl, arith}
+use Rattle.std.proofs.Common.{◌≡◌, ℕ, ◌==◌, ◌&&◌, List, [], Some, None, true, not, ap, sym, ◌∙◌, subst, refl, arith}
 use Rattle.o2_outer.specs.Inputs.{left_as}
 use Rattle.o2_isa.specs.Pointers.{is_ready}
 use Rattle.o2_isa.specs.View.{View, Filling, is_writable}
-use Rattle.o2_run.specs.Pieces.{counts, PartHands}
+use Rattle.o2_run.specs.Pieces.{told_counts, PartHands}
 use Rattle.o2_run.specs.Room.{call_names, pointed}
 use Rattle.o2_world.specs.Calls.{Effect, asks, read_slots, reading, row_of}
 use Rattle.o2_world.specs.Outcomes.{CallRow, come_out, row as call_row}
@@ -16,6 +16,7 @@ use Rattle.o2_gate.specs.Names.{TellsNames}
 use Rattle.o2_gate.specs.Pointed.{are_ready}
 use Rattle.o2_gate.specs.Targets.{targets}
 use Rattle.o2_gate.proofs.Asks.{by_number}
+use Rattle.o2_gate.proofs.Fails.{does_front}
 use Rattle.o2_gate.proofs.Gathered.{early_names, good_is, good_late_names, good_names, has_row, missed_names, on_asked, over_missed, tells_present, tells_same, trap_is, trap_names}
 use Rattle.o2_gate.proofs.Heaps.{heap_first, heap_last, is_early}
 use Rattle.o2_gate.proofs.Inputs.{next_reason}
@@ -133,7 +134,7 @@ returns-then-service-eq3-clause-refused g c = λ is f bound other.
 
 pub returns-then-service-eq3-clause-part : goal.returns-then-service-eq3-clause-part
 unfolding row_of
-returns-then-service-eq3-clause-part g c = λ f bytes known bound is.
+returns-then-service-eq3-clause-part g c = λ text m f bytes known bound e is.
     let v : View = g.B.Bus.view c.args.bus.now in
     let x = c.in-Some.row in
     let w : ℕ → ℕ = word_in c.in-Good.given.words in
@@ -141,13 +142,20 @@ returns-then-service-eq3-clause-part g c = λ f bytes known bound is.
     let h = has_row c.args.service x c.in-Some.ensures.row in
     let at = row_at x c.args.service 3 c.if-service-eq3.true c.in-Some.ensures.row in
     subst (λ (y : Effect). PartHands (y)
-    (counts (g.C.Sink.puts c.args.console.now) (g.C.Sink.puts c.args.console.now) (g.R.Sink.puts c.args.report.now) (g.R.Sink.puts c.read.new.report) 0) c.read.result)
+    (told_counts (g.C.Sink.puts c.args.console.now) (g.C.Sink.puts c.args.console.now) (g.R.Sink.puts c.args.report.now) (g.R.Sink.puts c.read.new.report) 0
+    (g.R.Sink.taken c.args.report.now) (g.R.Sink.taken c.read.new.report)) c.read.result)
     (sym (good_is v c.args.cpu.now c.args.service c.args.next c.args.pid f bound bytes known x c.in-Some.ensures.row c.in-Good.given.words c.in-Good.given.text c.in-Good.ensures.gathers))
     (by_number (λ (q : CallRow). PartHands (come_out q b c.args.next w (q.outcome b w))
-    (counts (g.C.Sink.puts c.args.console.now) (g.C.Sink.puts c.args.console.now) (g.R.Sink.puts c.args.report.now) (g.R.Sink.puts c.read.new.report) 0) c.read.result) c.args.service 3 c.if-service-eq3.true refl
+    (told_counts (g.C.Sink.puts c.args.console.now) (g.C.Sink.puts c.args.console.now) (g.R.Sink.puts c.args.report.now) (g.R.Sink.puts c.read.new.report) 0
+    (g.R.Sink.taken c.args.report.now) (g.R.Sink.taken c.read.new.report)) c.read.result) c.args.service 3 c.if-service-eq3.true refl
     (subst (λ (n : List ℕ). PartHands (come_out (call_row n read_slots reading) b c.args.next w (reading b w))
-    (counts (g.C.Sink.puts c.args.console.now) (g.C.Sink.puts c.args.console.now) (g.R.Sink.puts c.args.report.now) (g.R.Sink.puts c.read.new.report) 0) c.read.result) at.name
-    (read_part b w x.name.now c.args.next _ c.read.result (c.read.ensures.part _))) h.r h.is)
+    (told_counts (g.C.Sink.puts c.args.console.now) (g.C.Sink.puts c.args.console.now) (g.R.Sink.puts c.args.report.now) (g.R.Sink.puts c.read.new.report) 0
+    (g.R.Sink.taken c.args.report.now) (g.R.Sink.taken c.read.new.report)) c.read.result) at.name
+    (subst (λ (z : View). PartHands (come_out (call_row x.name.now read_slots reading) (before_call (boundless f z) c.args.pid c.args.cpu.now bytes known) c.args.next w (reading (before_call (boundless f z) c.args.pid c.args.cpu.now bytes known) w))
+    (told_counts (g.C.Sink.puts c.args.console.now) (g.C.Sink.puts c.args.console.now) (g.R.Sink.puts c.args.report.now) (g.R.Sink.puts c.read.new.report) 0
+    (g.R.Sink.taken c.args.report.now) (g.R.Sink.taken c.read.new.report)) c.read.result) c.gather.ensures.same
+    (read_part (before_call (boundless f (g.B.Bus.view c.gather.new.bus)) c.args.pid c.args.cpu.now bytes known) w x.name.now c.args.next _ _ _ _ _ c.read.result
+    (does_front _ _ _ _ _ _ _ _ _ _ _ _ _ c.read.result (c.read.ensures.does text m f bytes known None e)) (c.read.ensures.part _)))) h.r h.is)
 
 pub serve_heap-requires-clause-first : goal.serve_heap-requires-clause-first
 serve_heap-requires-clause-first g c = heap_first c.args.service (sym c.is_on_heap.ensures ∙ c.if-is_on_heap.true)
@@ -194,17 +202,19 @@ returns-then-is_on_heap-clause-every g c = λ other f bytes known bound is.
     (c.serve_heap.ensures.does f bytes known _ _ h.r refl h.is))
 
 pub returns-then-is_on_heap-clause-part : goal.returns-then-is_on_heap-clause-part
-returns-then-is_on_heap-clause-part g c = λ f bytes known bound is.
+returns-then-is_on_heap-clause-part g c = λ text m f bytes known bound e is.
     let v : View = g.B.Bus.view c.args.bus.now in
     let x = c.in-Some.row in
     let w : ℕ → ℕ = word_in c.in-Good.given.words in
     let b = before_call (boundless f v) c.args.pid c.args.cpu.now bytes known in
     let h = has_row c.args.service x c.in-Some.ensures.row in
     subst (λ (y : Effect). PartHands (y)
-    (counts (g.C.Sink.puts c.args.console.now) (g.C.Sink.puts c.args.console.now) (g.R.Sink.puts c.args.report.now) (g.R.Sink.puts c.serve_heap.new.report) 0) c.serve_heap.result)
+    (told_counts (g.C.Sink.puts c.args.console.now) (g.C.Sink.puts c.args.console.now) (g.R.Sink.puts c.args.report.now) (g.R.Sink.puts c.serve_heap.new.report) 0
+    (g.R.Sink.taken c.args.report.now) (g.R.Sink.taken c.serve_heap.new.report)) c.serve_heap.result)
     (sym (good_is v c.args.cpu.now c.args.service c.args.next c.args.pid f bound bytes known x c.in-Some.ensures.row c.in-Good.given.words c.in-Good.given.text c.in-Good.ensures.gathers))
     (subst (λ (z : View). PartHands (come_out h.r (before_call (boundless f z) c.args.pid c.args.cpu.now bytes known) c.args.next w (h.r.outcome (before_call (boundless f z) c.args.pid c.args.cpu.now bytes known) w))
-    (counts (g.C.Sink.puts c.args.console.now) (g.C.Sink.puts c.args.console.now) (g.R.Sink.puts c.args.report.now) (g.R.Sink.puts c.serve_heap.new.report) 0) c.serve_heap.result) c.gather.ensures.same
+    (told_counts (g.C.Sink.puts c.args.console.now) (g.C.Sink.puts c.args.console.now) (g.R.Sink.puts c.args.report.now) (g.R.Sink.puts c.serve_heap.new.report) 0
+    (g.R.Sink.taken c.args.report.now) (g.R.Sink.taken c.serve_heap.new.report)) c.serve_heap.result) c.gather.ensures.same
     (c.serve_heap.ensures.part f bytes known _ h.r h.is))
 
 pub returns-then-is_on_heap-clause-names : goal.returns-then-is_on_heap-clause-names
@@ -264,17 +274,19 @@ returns-else-is_on_heap-clause-every g c = λ other f bytes known bound is.
     (c.serve.ensures.does f bytes known _ h.r refl is.avail h.is))
 
 pub returns-else-is_on_heap-clause-part : goal.returns-else-is_on_heap-clause-part
-returns-else-is_on_heap-clause-part g c = λ f bytes known bound is.
+returns-else-is_on_heap-clause-part g c = λ text m f bytes known bound e is.
     let v : View = g.B.Bus.view c.args.bus.now in
     let x = c.in-Some.row in
     let w : ℕ → ℕ = word_in c.in-Good.given.words in
     let b = before_call (boundless f v) c.args.pid c.args.cpu.now bytes known in
     let h = has_row c.args.service x c.in-Some.ensures.row in
     subst (λ (y : Effect). PartHands (y)
-    (counts (g.C.Sink.puts c.args.console.now) (g.C.Sink.puts c.serve.new.console) (g.R.Sink.puts c.args.report.now) (g.R.Sink.puts c.serve.new.report) 0) c.serve.result)
+    (told_counts (g.C.Sink.puts c.args.console.now) (g.C.Sink.puts c.serve.new.console) (g.R.Sink.puts c.args.report.now) (g.R.Sink.puts c.serve.new.report) 0
+    (g.R.Sink.taken c.args.report.now) (g.R.Sink.taken c.serve.new.report)) c.serve.result)
     (sym (good_is v c.args.cpu.now c.args.service c.args.next c.args.pid f bound bytes known x c.in-Some.ensures.row c.in-Good.given.words c.in-Good.given.text c.in-Good.ensures.gathers))
     (subst (λ (z : View). PartHands (come_out h.r (before_call (boundless f z) c.args.pid c.args.cpu.now bytes known) c.args.next w (h.r.outcome (before_call (boundless f z) c.args.pid c.args.cpu.now bytes known) w))
-    (counts (g.C.Sink.puts c.args.console.now) (g.C.Sink.puts c.serve.new.console) (g.R.Sink.puts c.args.report.now) (g.R.Sink.puts c.serve.new.report) 0) c.serve.result) c.gather.ensures.same
+    (told_counts (g.C.Sink.puts c.args.console.now) (g.C.Sink.puts c.serve.new.console) (g.R.Sink.puts c.args.report.now) (g.R.Sink.puts c.serve.new.report) 0
+    (g.R.Sink.taken c.args.report.now) (g.R.Sink.taken c.serve.new.report)) c.serve.result) c.gather.ensures.same
     (c.serve.ensures.part f bytes known h.r is.avail h.is))
 
 pub returns-else-is_on_heap-clause-names : goal.returns-else-is_on_heap-clause-names

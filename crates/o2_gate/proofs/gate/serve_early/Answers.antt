@@ -1,15 +1,16 @@
-use Rattle.std.proofs.Common.{ℕ, List, [], ap, ◌∙◌, refl, subst}
+use Rattle.std.proofs.Common.{ℕ, List, [], Some, None, ap, ◌∙◌, refl, subst}
 use Rattle.o2_isa.specs.View.{View}
 use Rattle.o2_world.specs.Calls.{avail_by, exiting, row_of, telling_pid, writing}
 use Rattle.o2_world.specs.Changes.{moved_lines}
 use Rattle.o2_world.specs.Outcomes.{CallRow, by_ruling, come_out, row as call_row, ruled}
 use Rattle.o2_world.specs.declared.types.Slot.{Slot}
-use Rattle.o2_run.specs.Pieces.{counts, PartHands}
+use Rattle.o2_run.specs.Pieces.{told_counts, PartHands}
 use Rattle.o2_gate.specs.Befores.{boundless, before_call}
 use Rattle.o2_gate.specs.Called.{Does}
 use Rattle.o2_gate.specs.Given.{IsTextIn, word_in}
 use Rattle.o2_gate.specs.Overs.{avail_slots, pid_slots, write_slots}
 use Rattle.o2_gate.proofs.Asks.{by_number}
+use Rattle.o2_gate.proofs.Fails.{does_front, only_line}
 use Rattle.o2_world.specs.Slots.{pointers_in}
 use Rattle.o2_gate.proofs.Gathered.{has_row, row_is}
 use Rattle.o2_gate.proofs.Serves.{asked_is, avail_ready, pid_ready, row_at, targets_are, write_buffer, write_done}
@@ -57,9 +58,10 @@ returns-in-1-clause-part g c = λ f bytes known r avail there.
     let w : ℕ → ℕ = word_in c.args.given.now.words in
     let b = before_call (boundless f v) c.args.pid c.args.cpu.now bytes known in
     by_number (λ (q : CallRow). PartHands (come_out q b c.args.next w (q.outcome b w))
-    (counts (g.C.Sink.puts c.args.console.now) (g.C.Sink.puts c.args.console.now) (g.R.Sink.puts c.args.report.now) (g.R.Sink.puts c.exit.new.report) 0) c.exit.result)
+    (told_counts (g.C.Sink.puts c.args.console.now) (g.C.Sink.puts c.args.console.now) (g.R.Sink.puts c.args.report.now) (g.R.Sink.puts c.exit.new.report) 0
+    (g.R.Sink.taken c.args.report.now) (g.R.Sink.taken c.exit.new.report)) c.exit.result)
     c.args.service 1 c.in-1.is refl
-    (c.exit.ensures.part _) r there
+    (c.exit.ensures.part (come_out (call_row [] [] exiting) b c.args.next w (exiting b w)) _ refl refl) r there
 
 pub returns-in-2-clause-does : goal.returns-in-2-clause-does
 unfolding row_of
@@ -83,9 +85,13 @@ returns-in-2-clause-part g c = λ f bytes known r avail there.
     let b = before_call (boundless f v) c.args.pid c.args.cpu.now bytes known in
     let is = row_at c.args.row.now c.args.service 2 c.in-2.is c.requires.row in
     by_number (λ (q : CallRow). PartHands (come_out q b c.args.next w (q.outcome b w))
-    (counts (g.C.Sink.puts c.args.console.now) (g.C.Sink.puts c.args.console.now) (g.R.Sink.puts c.args.report.now) (g.R.Sink.puts c.tell_pid.new.report) 0) c.tell_pid.result)
+    (told_counts (g.C.Sink.puts c.args.console.now) (g.C.Sink.puts c.args.console.now) (g.R.Sink.puts c.args.report.now) (g.R.Sink.puts c.tell_pid.new.report) 0
+    (g.R.Sink.taken c.args.report.now) (g.R.Sink.taken c.tell_pid.new.report)) c.tell_pid.result)
     c.args.service 2 c.in-2.is refl
-    (c.tell_pid.ensures.part _) r there
+    (subst (λ (x : List ℕ). PartHands (come_out (call_row x pid_slots telling_pid) b c.args.next w (telling_pid b w))
+    (told_counts (g.C.Sink.puts c.args.console.now) (g.C.Sink.puts c.args.console.now) (g.R.Sink.puts c.args.report.now) (g.R.Sink.puts c.tell_pid.new.report) 0
+    (g.R.Sink.taken c.args.report.now) (g.R.Sink.taken c.tell_pid.new.report)) c.tell_pid.result) is.name
+    (only_line (come_out (call_row c.args.row.now.name.now pid_slots telling_pid) b c.args.next w (telling_pid b w)) (g.C.Sink.puts c.args.console.now) _ _ _ _ c.tell_pid.result refl refl (does_front _ _ _ _ _ _ _ _ _ _ _ _ _ c.tell_pid.result (c.tell_pid.ensures.does f bytes known (Some bytes) None refl)) (c.tell_pid.ensures.part _))) r there
 
 pub returns-in-4-clause-does : goal.returns-in-4-clause-does
 unfolding row_of
@@ -109,10 +115,12 @@ returns-in-4-clause-part g c = λ f bytes known r avail there.
     let b = before_call (boundless f v) c.args.pid c.args.cpu.now bytes known in
     let is = row_at c.args.row.now c.args.service 4 c.in-4.is c.requires.row in
     by_number (λ (q : CallRow). PartHands (come_out q b c.args.next w (q.outcome b w))
-    (counts (g.C.Sink.puts c.args.console.now) (g.C.Sink.puts c.write.new.console) (g.R.Sink.puts c.args.report.now) (g.R.Sink.puts c.write.new.report) 0) c.write.result)
+    (told_counts (g.C.Sink.puts c.args.console.now) (g.C.Sink.puts c.write.new.console) (g.R.Sink.puts c.args.report.now) (g.R.Sink.puts c.write.new.report) 0
+    (g.R.Sink.taken c.args.report.now) (g.R.Sink.taken c.write.new.report)) c.write.result)
     c.args.service 4 c.in-4.is refl
     (subst (λ (x : List ℕ). PartHands (come_out (call_row x write_slots writing) b c.args.next w (writing b w))
-    (counts (g.C.Sink.puts c.args.console.now) (g.C.Sink.puts c.write.new.console) (g.R.Sink.puts c.args.report.now) (g.R.Sink.puts c.write.new.report) 0) c.write.result) is.name
+    (told_counts (g.C.Sink.puts c.args.console.now) (g.C.Sink.puts c.write.new.console) (g.R.Sink.puts c.args.report.now) (g.R.Sink.puts c.write.new.report) 0
+    (g.R.Sink.taken c.args.report.now) (g.R.Sink.taken c.write.new.report)) c.write.result) is.name
     (c.write.ensures.part f bytes known)) r there
 
 pub returns-in-19-clause-does : goal.returns-in-19-clause-does
@@ -137,9 +145,13 @@ returns-in-19-clause-part g c = λ f bytes known r avail there.
     let b = before_call (boundless f v) c.args.pid c.args.cpu.now bytes known in
     let is = row_at c.args.row.now c.args.service 19 c.in-19.is c.requires.row in
     by_number (λ (q : CallRow). PartHands (come_out q b c.args.next w (q.outcome b w))
-    (counts (g.C.Sink.puts c.args.console.now) (g.C.Sink.puts c.args.console.now) (g.R.Sink.puts c.args.report.now) (g.R.Sink.puts c.tell_avail.new.report) 0) c.tell_avail.result)
+    (told_counts (g.C.Sink.puts c.args.console.now) (g.C.Sink.puts c.args.console.now) (g.R.Sink.puts c.args.report.now) (g.R.Sink.puts c.tell_avail.new.report) 0
+    (g.R.Sink.taken c.args.report.now) (g.R.Sink.taken c.tell_avail.new.report)) c.tell_avail.result)
     c.args.service 19 c.in-19.is refl
-    (c.tell_avail.ensures.part _) r there
+    (subst (λ (x : List ℕ). PartHands (come_out (ruled x avail_slots avail_by) b c.args.next w (by_ruling avail_slots b (avail_by b w)))
+    (told_counts (g.C.Sink.puts c.args.console.now) (g.C.Sink.puts c.args.console.now) (g.R.Sink.puts c.args.report.now) (g.R.Sink.puts c.tell_avail.new.report) 0
+    (g.R.Sink.taken c.args.report.now) (g.R.Sink.taken c.tell_avail.new.report)) c.tell_avail.result) is.name
+    (only_line (come_out (ruled c.args.row.now.name.now avail_slots avail_by) b c.args.next w (by_ruling avail_slots b (avail_by b w))) (g.C.Sink.puts c.args.console.now) _ _ _ _ c.tell_avail.result refl refl (does_front _ _ _ _ _ _ _ _ _ _ _ _ _ c.tell_avail.result (c.tell_avail.ensures.does f bytes known (Some bytes) None refl avail)) (c.tell_avail.ensures.part _))) r there
 
 pub returns-in_default-clause-does : goal.returns-in_default-clause-does
 returns-in_default-clause-does g c = λ f bytes known i r e avail there.

@@ -1,4 +1,4 @@
-use Rattle.std.proofs.Common.{◌≡◌, ℕ, ◌≤◌, [], ◌∷◌, List, true, false, drop, length, ap, sym, subst, ◌∙◌, arith}
+use Rattle.std.proofs.Common.{◌≡◌, ℕ, ◌≤◌, [], ◌∷◌, List, true, false, drop, length, Some, None, ap, sym, subst, ◌∙◌, refl, arith}
 use Rattle.o2_isa.specs.View.{View}
 use Rattle.o2_world.specs.Calls.{Effect, by_heap}
 use Rattle.o2_world.specs.Outcomes.{Fails, come_out, row as call_row}
@@ -13,6 +13,7 @@ use Rattle.o2_gate.specs.Given.{word_in}
 use Rattle.o2_gate.specs.Heaps.{IsHeapThere, front_of, heap_names, planned, ruling_by, selector_of}
 use Rattle.o2_gate.specs.Pointed.{are_ready}
 use Rattle.o2_gate.specs.Replies.{FitsIn}
+use Rattle.o2_gate.proofs.Fails.{does_front}
 use Rattle.o2_gate.proofs.Gathered.{has_row, over_missed, row_is, tells_present}
 use Rattle.o2_gate.proofs.HeapCalls.{fits_there, heap_part, names_there, outcome_none, outcome_some, ready_there, selector_is, slots_are}
 use Rattle.o2_gate.proofs.Heaps.{is_late, planned_is, value_within}
@@ -72,7 +73,8 @@ returns-in-Bad-clause-part g c = λ f bytes known k r there.
     let v : View = g.B.Bus.view c.args.bus.now in
     let x = c.args.row.now in
     heap_part c.args.service (is_late c.args.service c.requires.first c.requires.last) x r there (row_is x c.args.service r there c.requires.row) (before_call (boundless f v) c.args.pid c.args.cpu.now bytes known) c.args.next
-    (word_in c.args.words.now) _ c.refuse.result (c.refuse.ensures.part k)
+    (word_in c.args.words.now) k _ _ _ _ c.refuse.result
+    (does_front _ _ _ _ _ _ _ _ _ _ _ _ _ c.refuse.result (returns-in-Bad-clause-does g c f bytes known (Some bytes) None r refl there)) (c.refuse.ensures.part k)
 
 pub returns-in-Good-clause-does : goal.returns-in-Good-clause-does
 returns-in-Good-clause-does g c = λ f bytes known i k r e there.
@@ -118,4 +120,5 @@ returns-in-Good-clause-part g c = λ f bytes known k r there.
     let v : View = g.B.Bus.view c.args.bus.now in
     let x = c.args.row.now in
     heap_part c.args.service (is_late c.args.service c.requires.first c.requires.last) x r there (row_is x c.args.service r there c.requires.row) (before_call (boundless f v) c.args.pid c.args.cpu.now bytes known) c.args.next
-    (word_in c.args.words.now) _ c.finish.result (c.finish.ensures.part k)
+    (word_in c.args.words.now) k _ _ _ _ c.finish.result
+    (does_front _ _ _ _ _ _ _ _ _ _ _ _ _ c.finish.result (returns-in-Good-clause-does g c f bytes known (Some bytes) None r refl there)) (c.finish.ensures.part k)

@@ -1,7 +1,7 @@
 use Rattle.std.proofs.Common.{arith}
 use Rattle.o2_outer.specs.declared.sink.Put.TheVariants as put
 use Rattle.o2_outer.proofs.TextLemmas.{puts_more, puts_second}
-use Rattle.o2_gate.proofs.MovedLines.{block_count, block_more, block_split, block_whole, block_within}
+use Rattle.o2_gate.proofs.MovedLines.{block_count, block_fails, block_more, block_split, block_whole, block_within}
 use Rattle.o2_gate.proofs.line.put_block.Goals as goal
 
 pub returns-in-Failed-clause-report : goal.returns-in-Failed-clause-report
@@ -33,3 +33,7 @@ returns-clause-report g c =
 pub returns-clause-puts : goal.returns-clause-puts
 returns-clause-puts g c =
     rw (block_whole c.args.cause.now c.args.block.now c.loop-place.place (omega arith)) at c.loop-place.invariant.puts
+
+pub returns-in-Failed-clause-line : goal.returns-in-Failed-clause-line
+returns-in-Failed-clause-line g c =
+    block_fails c.args.cause.now c.args.block.now c.loop-place.place (omega arith) _ _ _ _ _ _ c.loop-place.invariant.so_far c.loop-place.invariant.puts c.in-Failed.ensures.line

@@ -4,7 +4,7 @@ use Rattle.std.proofs.lemmas.List.Folds.{length-flat_map-take}
 use Rattle.o2_outer.specs.declared.sink.Put.TheVariants as put
 use Rattle.o2_outer.proofs.TextLemmas.{puts_more, puts_second}
 use Rattle.o2_gate.specs.MovedLines.{all_lines, block_lines}
-use Rattle.o2_gate.proofs.MovedLines.{count_more, inside_at, no_block, text_more, text_split}
+use Rattle.o2_gate.proofs.MovedLines.{count_more, inside_at, item_fails, no_block, text_more, text_split}
 use Rattle.o2_gate.proofs.line.put_blocks.Goals as goal
 
 pub put_block-requires-clause-inside : goal.put_block-requires-clause-inside
@@ -41,3 +41,9 @@ returns-clause-report g c = rw (take_all c.loop-block.block-index c.args.blocks.
 pub returns-clause-puts : goal.returns-clause-puts
 unfolding all_lines
 returns-clause-puts g c = rw (take_all c.loop-block.block-index c.args.blocks.now (omega arith)) at c.loop-block.invariant.puts
+
+pub returns-in-Failed-clause-line : goal.returns-in-Failed-clause-line
+unfolding all_lines
+returns-in-Failed-clause-line g c =
+    item_fails (block_lines c.args.cause.now) c.args.blocks.now c.loop-block.block-index no_block c.loop-block-test.true _ _ _ _ _ _
+    c.loop-block.invariant.so_far c.loop-block.invariant.puts c.in-Failed.ensures.line

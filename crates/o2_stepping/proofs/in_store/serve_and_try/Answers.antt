@@ -1,12 +1,13 @@
 use Rattle.std.proofs.Common.{ℕ, ◌≤◌, List, ap, sym, subst, ◌∙◌, refl}
 use Rattle.o2_place.specs.Layout.{Layout, used}
 use Rattle.o2_world.specs.Effect.{effect}
-use Rattle.o2_run.specs.Pieces.{counts}
+use Rattle.o2_run.specs.Pieces.{told_counts}
 use Rattle.o2_stepping.specs.Worlds.{away_of, before_in}
 use Rattle.o2_stepping.proofs.Gates.{map_undone}
 use Rattle.o2_stepping.proofs.Goings.{goes_kept, only_kept, stays_kept}
 use Rattle.o2_stepping.proofs.Keeping.{held_stays, marks_hold, ready_same, shape_trans, try_shape}
 use Rattle.o2_stepping.proofs.Puts.{stop_hands}
+use Rattle.o2_stepping.proofs.SeatMarks.{under_stays}
 use Rattle.o2_stepping.proofs.Trials.{away_same, map_missed, never_stops, no_cause, not_begun, no_step, on_ran, part_first, stays_still, stop_part, together, together_in_part, tried, tried_for, wanted}
 use Rattle.o2_stepping.proofs.Worlds.{away_kept, view_same, with_kept}
 use Rattle.o2_store.specs.Idle.{NoneTaken}
@@ -132,7 +133,8 @@ returns-in-Err-clause-part g c = λ text may bytes known tells left same.
     let S = g.S.SwapDevice in
     let away : ℕ → List ℕ = away_of c.args.store.now c.args.regions.now c.args.images.now (S.blocks c.args.swap.now) (S.block c.args.swap.now) in
     stop_part (effect (before_in away c.args.store.now c.args.regions.now c.args.pid c.args.cpu.now bytes known))
-    (counts (g.C.Sink.puts c.args.console.now) (g.C.Sink.puts c.args.console.now) (g.R.Sink.puts c.args.report.now) (g.R.Sink.puts c.args.report.now) 0) c.in-Err.fault c.in-Err.ensures.kind
+    (told_counts (g.C.Sink.puts c.args.console.now) (g.C.Sink.puts c.args.console.now) (g.R.Sink.puts c.args.report.now) (g.R.Sink.puts c.args.report.now) 0
+    (g.R.Sink.taken c.args.report.now) (g.R.Sink.taken c.args.report.now)) c.in-Err.fault c.in-Err.ensures.kind
 
 pub returns-clause-part : goal.returns-clause-part
 returns-clause-part g c = λ text may bytes known tells left same.
@@ -145,7 +147,8 @@ returns-clause-part g c = λ text may bytes known tells left same.
     let b : ℕ → List ℕ = away_of t c.bring_in.new.regions im (S.blocks c.bring_in.new.swap) (S.block c.bring_in.new.swap) in
     let view = view_same a b s t c.args.regions.now c.bring_in.new.regions c.args.pid c.args.cpu.now c.bring_in.ensures.shape.tables c.bring_in.ensures.shape.holds (c.bring_in.ensures.bytes tells) in
     part_first a b b s t u c.args.regions.now c.bring_in.new.regions c.args.pid c.args.cpu.now bytes known view
-    (counts (g.C.Sink.puts c.args.console.now) (g.C.Sink.puts c.try_step.new.console) (g.R.Sink.puts c.args.report.now) (g.R.Sink.puts c.try_step.new.report) 0) c.try_step.result
+    (told_counts (g.C.Sink.puts c.args.console.now) (g.C.Sink.puts c.try_step.new.console) (g.R.Sink.puts c.args.report.now) (g.R.Sink.puts c.try_step.new.report) 0
+    (g.R.Sink.taken c.args.report.now) (g.R.Sink.taken c.try_step.new.report)) c.try_step.result
     (c.try_step.ensures.part.part text may b bytes known left same)
 
 pub returns-clause-idle : goal.returns-clause-idle
@@ -164,3 +167,12 @@ returns-clause-leave g c = λ r. goes_kept c.args.store.now c.bring_in.new.store
 
 pub returns-clause-room : goal.returns-clause-room
 returns-clause-room g c = subst (λ (x : Layout). used x.ranges ≤ x.size) (sym (ap (λ (x : Shelf). x.places) c.try_step.ensures.store.store)) c.bring_in.ensures.room
+
+pub returns-clause-whole : goal.returns-clause-whole
+returns-clause-whole g c =
+    let t = c.bring_in.new.store in
+    let u = c.try_step.new.store in
+    let n = c.bring_in.new.regions in
+    let o = c.try_step.new.regions in
+    let tried = try_shape t u n o c.try_step.ensures.store c.try_step.ensures.maps in
+    map_missed _ _ c.try_step.result (λ z whole. under_stays t u n o c.args.pid z.0 tried.tables tried.holds whole) c.try_step.ensures.whole

@@ -7,7 +7,7 @@ use Rattle.o2_place.specs.declared.seg_id.SegId.{SegId}
 use Rattle.o2_segbus.specs.Bus.{held_under}
 use Rattle.o2_segbus.specs.Seen.{hold_in, present_in, seen}
 use Rattle.o2_service.proofs.Among.{all_live_same, only_refl, only_trans}
-use Rattle.o2_service.specs.Needs.{AreLive, OnlyNeededComes, all_needed, size_in}
+use Rattle.o2_service.specs.Needs.{AreLive, AreWhole, OnlyNeededComes, all_needed, size_in}
 use Rattle.o2_outer.specs.Texts.{Rose}
 use Rattle.o2_outer.specs.Inputs.{left_as}
 use Rattle.o2_store.specs.Loads.{live_load, swap_load}
@@ -17,7 +17,7 @@ use Rattle.o2_world.specs.Known.{Known}
 use Rattle.o2_world.specs.Calls.{Before}
 use Rattle.o2_world.specs.Effect.{effect}
 use Rattle.o2_run.specs.Room.{seated, touched}
-use Rattle.o2_stepping.specs.Rooms.{AreNeeded, IsWanted, ages_of, all_names, left_in, needed_names, pair_of, room_in, seated_in}
+use Rattle.o2_stepping.specs.Rooms.{AreNeeded, IsWanted, ages_of, all_names, left_in, needed_names, pair_of, room_in, seated_in, whole_names}
 use Rattle.o2_stepping.specs.Worlds.{away_of, before_in, bytes_with}
 use Rattle.o2_stepping.proofs.Goings.{goes_refl, goes_then, only_more, only_named}
 use Rattle.o2_stepping.proofs.Here.{may_step, seats_here}
@@ -25,13 +25,15 @@ use Rattle.o2_stepping.proofs.Keeping.{shape_refl, shape_trans}
 use Rattle.o2_stepping.proofs.Lefts.{left_less, left_most, touched_few}
 use Rattle.o2_stepping.proofs.Rounds.{ages_seated, lacks_room, length_one, length_some, no_place, own_in, live_more, live_pair, live_seated, named_more, needed_all, needed_more, none_more, none_pair, none_seated, seated_few, seated_same}
 use Rattle.o2_stepping.proofs.Named.{both_in, or_front, or_back}
-use Rattle.o2_run.specs.Pieces.{Counts, counts, Hands, PartHands}
-use Rattle.o2_stepping.specs.Pieces.{StepHands}
-use Rattle.o2_stepping.specs.declared.one_step.Stepped.{Stepped}
-use Rattle.o2_stepping.proofs.Puts.{missed_hands, part_fault, ran_fault, ran_hands}
-use Rattle.o2_stepping.proofs.Steps.{asked_at, asks_at, at_begun, at_stop, counts_from, failed_at, first_from, full_then, map_asking, missed_at, missed_then, part_from, ran_at, ran_cause, ran_tries, tries_from}
+use Rattle.o2_run.specs.Pieces.{Counts, told_counts, Hands}
+use Rattle.o2_stepping.specs.Pieces.{StepHands, StepPart}
+use Rattle.o2_stepping.proofs.Puts.{missed_hands, part_fault, ran_fault, ran_hands, ran_part}
+use Rattle.o2_stepping.proofs.Steps.{asked_at, asks_at, at_begun, at_stop, counts_from, failed_at, first_from, full_then, map_asking, missed_at, missed_then, part_from, ran_at, ran_cause, ran_tries, told_from, tries_from}
 use Rattle.o2_stepping.proofs.Rooms.{room_fits, room_same}
+use Rattle.o2_stepping.proofs.SeatMarks.{all_whole_same, whole_more, whole_pair}
+use Rattle.o2_stepping.proofs.Wholes.{ages_whole, among_whole, marks_stay}
 use Rattle.o2_stepping.proofs.Worlds.{registers_are, seen_present, view_same}
+use Rattle.o2_store.proofs.Framing.{device_refl}
 use Rattle.o2_store.proofs.Idling.{idle_then}
 use Rattle.o2_store.proofs.Keeping.{tables_trans}
 use Rattle.o2_stepping.proofs.in_store.step_in_store.Goals as goal
@@ -63,6 +65,7 @@ tries-init g c =
       only = only_refl need s;
       leave = goes_refl s;
       live = subst (λ (x : List (SegId × ℕ)). AreLive s x) (sym e) (live_seated s m pid cpu c.requires.ready.held);
+      whole = subst (λ (x : List (SegId × ℕ)). AreWhole s x) (sym e) (c.may_serve.ensures.whole c.if-not-may_serve.false);
       seats = subst (λ (x : List (SegId × ℕ)). AreNeeded x (seated_in m pid cpu)) (sym e) (needed_all (seated_in m pid cpu));
       can_step = λ h. may_step s m pid r.named r.settled cpu c.requires.process (sym c.are_here-here.ensures ∙ h);
       here = subst (λ (x : List (SegId × ℕ)). c.are_here-here.result ≡ true → (k : ℕ) → is_in k (ages_of x) ≡ true → present_in s k ≡ true) (sym e)
@@ -125,6 +128,8 @@ tries-preserved g c =
       only = subst (λ (x : List (SegId × ℕ)). OnlyNeededComes x s u) (sym added) (only_more old more s u (only_trans old s t u i.only e.only));
       leave = goes_then old s t u i.shape.tables e.shape.tables.size e.room i.only e.stays i.leave (e.leave refl);
       live = subst (λ (x : List (SegId × ℕ)). AreLive u x) (sym added) (live_more u old more (all_live_same t u old e.shape.tables i.live) (live_pair u o pid sel.0 e.ready.held));
+      whole = subst (λ (x : List (SegId × ℕ)). AreWhole u x) (sym added)
+          (whole_more u old more (all_whole_same t u old e.shape.tables i.whole) (whole_pair u o pid sel.0 (missed_at _ x0 sel is e.whole)));
       seats = subst (λ (x : List (SegId × ℕ)). AreNeeded x (seated_in o pid d)) (sym added)
           (needed_more old more (seated_in o pid d)
           (subst (λ (x : List (SegId × ℕ)). AreNeeded old x) (sym (seated_same n o pid d e.shape.holds ∙ ap (seated_in n pid) st.0)) i.seats));
@@ -214,16 +219,19 @@ returns-in-Err-clause-still g c =
     at_stop P P P A A A c.in-Err.fault f f f c.in-Err.ensures.stopped
 
 pub returns-in-Err-clause-no_room : goal.returns-in-Err-clause-no_room
-returns-in-Err-clause-no_room g c = λ bytes known tells.
+returns-in-Err-clause-no_room g c = λ seats bytes known tells.
     let S = g.S.SwapDevice in
     let i = c.tries.invariant in
     let s = c.args.store.now in
     let t = c.tries.store in
     let a : ℕ → List ℕ = away_of s c.args.regions.now c.args.images.now (S.blocks c.args.swap.now) (S.block c.args.swap.now) in
     let names = needed_names (before_in a s c.args.regions.now c.args.pid c.args.cpu.now bytes known) in
+    let kept = λ (n : ℕ) (h : is_in n (ages_of c.tries.need) ≡ true).
+    among_whole s n names (sym (marks_stay s t i.shape.tables n) ∙ ages_whole t c.tries.need i.ready.aged (λ j p f. i.live.each j p f) (λ j p f. i.whole.each j p f) n h)
+    (i.named bytes known (c.in-Err.ensures.device.1 tells) n h) in
     at_stop (t.places.size < all_needed t c.tries.need) ((all_of t.swap < swap_load t) × (t.places.size < live_load t)) (Rose (S.faults c.tries.swap) (S.faults c.serve_and_try.new.swap))
-    (s.places.size < room_in s names) (Unit {0}) (Unit {0}) c.in-Err.fault
-    (λ p. lacks_room s t c.tries.need names i.shape.tables i.live i.sizes (i.named bytes known (c.in-Err.ensures.device.1 tells)) p) (λ p. tt) (λ p. tt) c.in-Err.ensures.causes
+    (s.places.size < room_in s (whole_names s names)) (Unit {0}) (Unit {0}) c.in-Err.fault
+    (λ p. lacks_room s t c.tries.need (whole_names s names) i.shape.tables i.live i.sizes kept p) (λ p. tt) (λ p. tt) c.in-Err.ensures.causes
 
 pub returns-in-Err-clause-loads : goal.returns-in-Err-clause-loads
 returns-in-Err-clause-loads g c =
@@ -384,7 +392,7 @@ pub returns-then-not-add_missed-clause-takes : goal.returns-then-not-add_missed-
 returns-then-not-add_missed-clause-takes g c = λ bytes known tells left same. returns-then-not-add_missed-clause-takes_as g c None tt bytes known tells left same
 
 pub returns-then-not-add_missed-clause-no_room : goal.returns-then-not-add_missed-clause-no_room
-returns-then-not-add_missed-clause-no_room g c = λ bytes known tells.
+returns-then-not-add_missed-clause-no_room g c = λ seats bytes known tells.
     let S = g.S.SwapDevice in
     let i = c.tries.invariant in
     let s = c.args.store.now in
@@ -458,11 +466,34 @@ returns-in-Err-clause-part g c = λ text may bytes known tells left same.
     let view = view_same a b s t m n pid cpu i.shape.tables i.shape.holds (i.bytes (c.in-Err.ensures.device.1 tells)) in
     let z : Before = before_in a s m pid cpu bytes known in
     let new = c.serve_and_try.new in
-    let k = counts (g.C.Sink.puts c.tries.console) (g.C.Sink.puts new.console) (g.R.Sink.puts c.tries.report) (g.R.Sink.puts new.report) 0 in
-    counts_from (λ (n : Counts). PartHands {T = Stepped} (effect z) n (Err c.in-Err.fault)) (g.C.Sink.puts c.args.console.now) (g.C.Sink.puts new.console) (g.R.Sink.puts c.args.report.now) (g.R.Sink.puts new.report)
-    (ap g.C.Sink.puts i.console) (ap g.R.Sink.puts i.report) (part_fault (effect z) k c.in-Err.fault
+    let k = told_counts (g.C.Sink.puts c.tries.console) (g.C.Sink.puts new.console) (g.R.Sink.puts c.tries.report) (g.R.Sink.puts new.report) 0 (g.R.Sink.taken c.tries.report) (g.R.Sink.taken new.report) in
+    told_from (λ (n : Counts). StepPart (effect z) n (Err c.in-Err.fault)) (g.C.Sink.puts c.args.console.now) (g.C.Sink.puts new.console) (g.R.Sink.puts c.args.report.now) (g.R.Sink.puts new.report)
+    (g.R.Sink.taken c.args.report.now) (g.R.Sink.taken new.report) (ap g.C.Sink.puts i.console) (ap g.R.Sink.puts i.report) (ap g.R.Sink.taken i.report) (part_fault (effect z) k c.in-Err.fault
     (part_from a b s t m n pid cpu bytes known view (i.bytes (c.in-Err.ensures.device.1 tells)) c.tries.cpu i.cpu k (Err c.in-Err.fault)
     (c.in-Err.ensures.part text may bytes known tells (ap (λ x. left_as text (g.I.Source.left x) (g.I.Source.past x)) i.input ∙ left) (record { avail = same.avail ∙ sym i.avail }))))
+
+pub returns-in-Ok-Stepped-clause-part : goal.returns-in-Ok-Stepped-clause-part
+returns-in-Ok-Stepped-clause-part g c = λ text may bytes known tells left same.
+    let S = g.S.SwapDevice in
+    let i = c.tries.invariant in
+    let s = c.args.store.now in
+    let t = c.tries.store in
+    let m = c.args.regions.now in
+    let n = c.tries.regions in
+    let im = c.args.images.now in
+    let pid = c.args.pid in
+    let cpu = c.args.cpu.now in
+    let a : ℕ → List ℕ = away_of s m im (S.blocks c.args.swap.now) (S.block c.args.swap.now) in
+    let b : ℕ → List ℕ = away_of t n im (S.blocks c.tries.swap) (S.block c.tries.swap) in
+    let view = view_same a b s t m n pid cpu i.shape.tables i.shape.holds (i.bytes (c.in-Ok-Stepped.ensures.device.1 tells)) in
+    let z : Before = before_in a s m pid cpu bytes known in
+    let new = c.serve_and_try.new in
+    let k = told_counts (g.C.Sink.puts c.tries.console) (g.C.Sink.puts new.console) (g.R.Sink.puts c.tries.report) (g.R.Sink.puts new.report) 0 (g.R.Sink.taken c.tries.report) (g.R.Sink.taken new.report) in
+    told_from (λ (n : Counts). StepPart (effect z) n (Ok c.in-Ok-Stepped.stepped)) (g.C.Sink.puts c.args.console.now) (g.C.Sink.puts new.console) (g.R.Sink.puts c.args.report.now) (g.R.Sink.puts new.report)
+    (g.R.Sink.taken c.args.report.now) (g.R.Sink.taken new.report) (ap g.C.Sink.puts i.console) (ap g.R.Sink.puts i.report) (ap g.R.Sink.taken i.report)
+    (ran_part (effect z) k c.in-Ok-Stepped.field-0 c.in-Ok-Stepped.stepped c.in-Ok-Stepped.field-0-is
+    (part_from a b s t m n pid cpu bytes known view (i.bytes (c.in-Ok-Stepped.ensures.device.1 tells)) c.tries.cpu i.cpu k (Ok c.in-Ok-Stepped.field-0)
+    (c.in-Ok-Stepped.ensures.part text may bytes known tells (ap (λ x. left_as text (g.I.Source.left x) (g.I.Source.past x)) i.input ∙ left) (record { avail = same.avail ∙ sym i.avail }))))
 
 pub returns-in-Ok-Stepped-clause-goes_on : goal.returns-in-Ok-Stepped-clause-goes_on
 returns-in-Ok-Stepped-clause-goes_on g c = rw c.tries.invariant.input at c.in-Ok-Stepped.ensures.goes_on
@@ -538,3 +569,34 @@ returns-in-Ok-Stepped-clause-leave g c = λ r.
     (let i = c.tries.invariant in
     let e = c.in-Ok-Stepped.ensures in
     goes_then c.tries.need c.args.store.now c.tries.store c.serve_and_try.new.store i.shape.tables e.shape.tables.size e.room i.only e.stays i.leave (e.leave refl))
+
+-- Nothing is tried where a segment register names what was discarded.
+
+pub may_serve-requires-clause-here : goal.may_serve-requires-clause-here
+may_serve-requires-clause-here g c = λ h. sym c.are_here-here.ensures ∙ h
+
+pub returns-then-not-may_serve-clause-takes_as : goal.returns-then-not-may_serve-clause-takes_as
+returns-then-not-may_serve-clause-takes_as g c = λ text may bytes known tells left same.
+    record { cpu = refl; bytes = λ n. refl; input = refl; to_console = refl; to_report = refl }
+
+pub returns-then-not-may_serve-clause-takes : goal.returns-then-not-may_serve-clause-takes
+returns-then-not-may_serve-clause-takes g c = λ bytes known tells left same.
+    record { cpu = refl; bytes = λ n. refl; input = refl; to_console = refl; to_report = refl }
+
+pub returns-then-not-may_serve-clause-no_room : goal.returns-then-not-may_serve-clause-no_room
+returns-then-not-may_serve-clause-no_room g c = λ seats bytes known tells. absurd (c.may_serve.ensures.gone c.if-not-may_serve.true seats)
+
+pub returns-then-not-may_serve-clause-only : goal.returns-then-not-may_serve-clause-only
+returns-then-not-may_serve-clause-only g c = λ bytes known tells. record { each = λ k f n. n }
+
+pub returns-then-not-may_serve-clause-shape : goal.returns-then-not-may_serve-clause-shape
+returns-then-not-may_serve-clause-shape g c = shape_refl c.args.store.now c.args.regions.now
+
+pub returns-then-not-may_serve-clause-device : goal.returns-then-not-may_serve-clause-device
+returns-then-not-may_serve-clause-device g c = device_refl _ _ _ c.args.swap.now _ (λ failed. cc)
+
+pub returns-then-not-may_serve-clause-puts : goal.returns-then-not-may_serve-clause-puts
+returns-then-not-may_serve-clause-puts g c = record { to_console = omega arith; to_report = omega arith }
+
+pub returns-then-not-may_serve-clause-idle : goal.returns-then-not-may_serve-clause-idle
+returns-then-not-may_serve-clause-idle g c = λ none load. record { device = refl; none = none }

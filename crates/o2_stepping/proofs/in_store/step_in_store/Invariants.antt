@@ -3,7 +3,7 @@ use Rattle.std.specs.Prelude.{IsTrue}
 use Rattle.o2_isa.specs.Presence.{is_in}
 use Rattle.o2_segbus.specs.Frames.{CanStep}
 use Rattle.o2_segbus.specs.Seen.{present_in}
-use Rattle.o2_service.specs.Needs.{AreLive, OnlyNeededComes, size_in}
+use Rattle.o2_service.specs.Needs.{AreLive, AreWhole, OnlyNeededComes, size_in}
 use Rattle.o2_stands.specs.Stands.{IsReady}
 use Rattle.o2_world.specs.Known.{Known}
 use Rattle.o2_run.specs.Room.{touched}
@@ -35,6 +35,7 @@ invariant-tries g l =
       only : OnlyNeededComes l.need l.fn.store l.store;
       leave : GoForRoom l.fn.store l.store;
       live : AreLive l.store l.need;
+      whole : AreWhole l.store l.need;
       seats : AreNeeded l.need (seated_in l.regions l.pid l.cpu);
       can_step : l.here ≡ true → CanStep l.store l.regions l.pid l.cpu;
       here : l.here ≡ true → (n : ℕ) → is_in n (ages_of l.need) ≡ true → present_in l.store n ≡ true;

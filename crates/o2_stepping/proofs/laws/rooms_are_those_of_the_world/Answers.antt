@@ -8,7 +8,7 @@ pub returns-clause-lacks : goal.returns-clause-lacks
 returns-clause-lacks c = λ p s w q next more. lacks p s w q next more
 
 pub returns-clause-full : goal.returns-clause-full
-returns-clause-full c = λ p s w lawful set stands x. full p s w lawful set stands x
+returns-clause-full c = λ p s w lawful set stands wordless x. full p s w lawful set stands wordless x
 
 pub returns-clause-fits_in_part : goal.returns-clause-fits_in_part
 returns-clause-fits_in_part c = λ p s w q m d next same is stay quiet room. fits_in_part p s w q next m d same is stay quiet room

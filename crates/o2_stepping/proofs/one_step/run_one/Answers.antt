@@ -23,10 +23,10 @@ use Rattle.o2_gate.proofs.Writing.{writes_data, writes_then, agrees_then}
 use Rattle.o2_stepping.proofs.Touches.{loads_missed, touched_present, call_missed, call_present, told_by, told_before}
 use Rattle.o2_world.specs.Effect.{effect}
 use Rattle.o2_run.specs.declared.fault.Fault.{Fault}
-use Rattle.o2_run.specs.Pieces.{Counts, counts, PartHands}
+use Rattle.o2_run.specs.Pieces.{Counts, told_counts, PartHands}
 use Rattle.o2_gate.specs.declared.called.Called.{Called}
-use Rattle.o2_stepping.specs.Pieces.{AttemptHands}
-use Rattle.o2_stepping.proofs.Puts.{no_hands, asked_hands, back_hands, exit_hands, trap_hands, waits_hands, fault_hands, behind, trap_part, fault_part}
+use Rattle.o2_stepping.specs.Pieces.{AttemptHands, AttemptPart}
+use Rattle.o2_stepping.proofs.Puts.{no_hands, asked_hands, back_hands, exit_hands, trap_hands, waits_hands, fault_hands, behind, behind_told, trap_part, fault_part}
 use Rattle.o2_stepping.proofs.one_step.run_one.Goals as goal
 
 pub returns-in-Done-clause-leaves_as : goal.returns-in-Done-clause-leaves_as
@@ -427,9 +427,9 @@ pub returns-in-Trap-clause-part_as : goal.returns-in-Trap-clause-part_as
 returns-in-Trap-clause-part_as g c = λ text m f input known bound left same.
     let v : View = g.B.Bus.view c.args.bus.now in
     let b = before_call (boundless f v) c.args.pid c.args.cpu.now input known in
-    trap_part b _ c.in-Trap.vector _ c.trap.result
+    trap_part b (effect b) c.in-Trap.vector c.step_cached.new.cpu _ c.trap.result
     (effect_by b (Err (stop.Trap c.in-Trap.vector c.in-Trap.field-1)) (trap_boundless f v (g.B.Bus.view c.step_cached.new.bus) c.args.cpu.now c.step_cached.new.cpu c.in-Trap.vector c.in-Trap.field-1 (c.in-Trap.ensures.boundless f bound)))
-    (c.trap.ensures.part _)
+    (ap (λ (s : Machine). s.cpu) c.in-Trap.ensures.step.1) (λ none lines. c.trap.ensures.part (effect b) _ none lines)
 
 pub returns-in-Trap-clause-part : goal.returns-in-Trap-clause-part
 returns-in-Trap-clause-part g c = λ f input known bound left same. returns-in-Trap-clause-part_as g c None tt f input known bound left same
@@ -445,11 +445,11 @@ returns-in-Ok-Trap-clause-part_as g c = λ text m f input known bound left same.
     (c.in-Ok-Trap.ensures.does text m f input known bound_then left (record { avail = same.avail })) in
     let vector = c.in-Ok-Trap.vector in
     let t = by_answer f c.args.pid input known c.in-Gate.service c.in-Gate.next c.call.new.cpu (g.B.Bus.view c.call.new.bus) _ _ _ _ _ _ v c.args.cpu.now c.in-Ok-Trap.field-0 (called.Trap vector _) c.in-Ok-Trap.field-0-is does in
-    behind (λ (n : Counts). PartHands (effect b) n c.trap-in-Ok-Trap.result) _ _ _ _ _ (trap_hands _ c.in-Ok-Trap.field-0 c.in-Ok-Trap.ensures.puts _ _ c.in-Ok-Trap.field-0-is)
-    (trap_part b _ vector _ c.trap-in-Ok-Trap.result
+    behind_told (λ (n : Counts). AttemptPart (effect b) n c.trap-in-Ok-Trap.result) _ _ _ _ _ _ _ _ (trap_hands _ c.in-Ok-Trap.field-0 c.in-Ok-Trap.ensures.puts _ _ c.in-Ok-Trap.field-0-is) t.untouched.to_report
+    (trap_part b (effect b) vector c.call.new.cpu _ c.trap-in-Ok-Trap.result
     (effect_by b (Err (stop.Gate c.in-Gate.service c.in-Gate.next)) (gate_boundless f v w c.args.cpu.now c.step_cached.new.cpu c.in-Gate.service c.in-Gate.next (c.in-Gate.ensures.boundless f bound))
     ∙ ap (λ (e : Effect). single_stepped b e) t.effect)
-    (c.trap-in-Ok-Trap.ensures.part _))
+    t.untouched.cpu (λ none lines. c.trap-in-Ok-Trap.ensures.part (effect b) _ none lines))
 
 pub returns-in-Ok-Trap-clause-part : goal.returns-in-Ok-Trap-clause-part
 returns-in-Ok-Trap-clause-part g c = λ f input known bound left same. returns-in-Ok-Trap-clause-part_as g c None tt f input known bound left same
@@ -461,10 +461,11 @@ returns-in-Err-clause-part_as g c = λ text m f input known bound left same.
     let b = before_call (boundless f v) c.args.pid c.args.cpu.now input known in
     let step = c.in-Gate.ensures.step in
     let bound_then : IsBound w = subst (λ (s : Machine). IsBound s.view) (sym step.1) bound in
-    let n = counts (g.C.Sink.puts c.args.console.now) (g.C.Sink.puts c.call.new.console) (g.R.Sink.puts c.args.report.now) (g.R.Sink.puts c.call.new.report) 0 in
+    let n = told_counts (g.C.Sink.puts c.args.console.now) (g.C.Sink.puts c.call.new.console) (g.R.Sink.puts c.args.report.now) (g.R.Sink.puts c.call.new.report) 0
+    (g.R.Sink.taken c.args.report.now) (g.R.Sink.taken c.call.new.report) in
     let fails : Result Called Fault = Err c.in-Err.fault in
     let part = subst (λ (s : Machine). PartHands (serviced (before_call (boundless f s.view) c.args.pid s.cpu input known) c.in-Gate.service c.in-Gate.next) n fails) step.1
-    (c.in-Err.ensures.part f input known bound_then (record { avail = same.avail })) in
+    (c.in-Err.ensures.part text m f input known bound_then left (record { avail = same.avail })) in
     fault_part b (serviced b c.in-Gate.service c.in-Gate.next) _ n c.in-Err.fault
     (effect_by b (Err (stop.Gate c.in-Gate.service c.in-Gate.next)) (gate_boundless f v w c.args.cpu.now c.step_cached.new.cpu c.in-Gate.service c.in-Gate.next (c.in-Gate.ensures.boundless f bound))) part
 
@@ -472,7 +473,19 @@ pub returns-in-Err-clause-part : goal.returns-in-Err-clause-part
 returns-in-Err-clause-part g c = λ f input known bound left same. returns-in-Err-clause-part_as g c None tt f input known bound left same
 
 pub returns-in-Done-clause-part_as : goal.returns-in-Done-clause-part_as
-returns-in-Done-clause-part_as g c = λ text m f input known bound left same. c.outlived.ensures.part _ _ _
+returns-in-Done-clause-part_as g c = λ text m f input known bound left same.
+    let v : View = g.B.Bus.view c.args.bus.now in
+    let w : View = g.B.Bus.view c.step_cached.new.bus in
+    let b = before_call (boundless f v) c.args.pid c.args.cpu.now input known in
+    let cpu = c.step_cached.new.cpu in
+    let r : Result Machine stop.the_data = Ok (state cpu (boundless f w)) in
+    let k = g.C.Sink.puts c.args.console.now in
+    subst (λ (e : Effect). AttemptPart e (told_counts k k (g.R.Sink.puts c.args.report.now) (g.R.Sink.puts c.outlived.new.report) 0
+    (g.R.Sink.taken c.args.report.now) (g.R.Sink.taken c.outlived.new.report)) c.outlived.result)
+    (sym (effect_by b r (done_boundless f v w c.args.cpu.now cpu (c.in-Done.ensures.boundless f bound))))
+    (c.outlived.ensures.part f b (answered b r) cpu w (left_as text (g.I.Source.left c.args.input.now) (g.I.Source.past c.args.input.now))
+    (g.C.Sink.taken c.args.console.now) (g.C.Sink.taken c.args.console.now) (g.R.Sink.taken c.args.report.now) k k (g.R.Sink.puts c.args.report.now) refl refl
+    (record { state = refl; piece = refl; lines = refl; cpu = refl; changes = refl; waits = refl; bytes = λ n. refl; input = left; to_console = gains_none _; to_report = gains_none _ }) (no_hands _ _))
 
 pub returns-in-Done-clause-part : goal.returns-in-Done-clause-part
 returns-in-Done-clause-part g c = λ f input known bound left same. returns-in-Done-clause-part_as g c None tt f input known bound left same
@@ -481,7 +494,23 @@ pub returns-in-Trap-clause-puts : goal.returns-in-Trap-clause-puts
 returns-in-Trap-clause-puts g c = c.trap.ensures.puts _
 
 pub returns-in-Ok-Back-clause-part_as : goal.returns-in-Ok-Back-clause-part_as
-returns-in-Ok-Back-clause-part_as g c = λ text m f input known bound left same. c.outlived-in-Ok-Back.ensures.part _ _ _
+returns-in-Ok-Back-clause-part_as g c = λ text m f input known bound left same.
+    let v : View = g.B.Bus.view c.args.bus.now in
+    let w : View = g.B.Bus.view c.step_cached.new.bus in
+    let new : View = g.B.Bus.view c.call.new.bus in
+    let b = before_call (boundless f v) c.args.pid c.args.cpu.now input known in
+    let step = c.in-Gate.ensures.step in
+    let bound_then : IsBound w = subst (λ (s : Machine). IsBound s.view) (sym step.1) bound in
+    let does = moved f c.args.pid input known c.in-Gate.service c.in-Gate.next c.call.new.cpu new _ _ _ _ _ _ (Ok c.in-Ok-Back.field-0) (state c.step_cached.new.cpu w) (state c.args.cpu.now v) step.1
+    (c.in-Ok-Back.ensures.does text m f input known bound_then left (record { avail = same.avail })) in
+    let made = by_answer f c.args.pid input known c.in-Gate.service c.in-Gate.next c.call.new.cpu new _ _ _ _ _ _ v c.args.cpu.now c.in-Ok-Back.field-0 (called.Back c.in-Ok-Back.bytes) c.in-Ok-Back.field-0-is does in
+    subst (λ (e : Effect). AttemptPart e (told_counts (g.C.Sink.puts c.args.console.now) (g.C.Sink.puts c.call.new.console) (g.R.Sink.puts c.args.report.now) (g.R.Sink.puts c.outlived-in-Ok-Back.new.report) 0
+    (g.R.Sink.taken c.args.report.now) (g.R.Sink.taken c.outlived-in-Ok-Back.new.report)) c.outlived-in-Ok-Back.result)
+    (sym (effect_by b (Err (stop.Gate c.in-Gate.service c.in-Gate.next)) (gate_boundless f v w c.args.cpu.now c.step_cached.new.cpu c.in-Gate.service c.in-Gate.next (c.in-Gate.ensures.boundless f bound))))
+    (c.outlived-in-Ok-Back.ensures.part f b (serviced b c.in-Gate.service c.in-Gate.next) c.call.new.cpu new
+    (left_as text (g.I.Source.left c.call.new.input) (g.I.Source.past c.call.new.input)) (g.C.Sink.taken c.args.console.now) (g.C.Sink.taken c.call.new.console) (g.R.Sink.taken c.args.report.now)
+    (g.C.Sink.puts c.args.console.now) (g.C.Sink.puts c.call.new.console) (g.R.Sink.puts c.args.report.now) refl refl made
+    (back_hands _ c.in-Ok-Back.field-0 c.in-Ok-Back.ensures.puts _ c.in-Ok-Back.field-0-is))
 
 pub returns-in-Ok-Back-clause-part : goal.returns-in-Ok-Back-clause-part
 returns-in-Ok-Back-clause-part g c = λ f input known bound left same. returns-in-Ok-Back-clause-part_as g c None tt f input known bound left same

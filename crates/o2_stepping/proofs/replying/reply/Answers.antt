@@ -1,6 +1,6 @@
 use Rattle.std.proofs.Common.{true, false, sym, ◌∙◌, refl}
 use Rattle.o2_gate.specs.Replies.{lines_of}
-use Rattle.o2_stepping.proofs.ReplyLines.{clear_count, clear_report, clear_state, failed_put, failed_then, hands_as, hands_then, late_put, part_put, set_count, set_failed, set_late, set_state, set_whole, whole_then}
+use Rattle.o2_stepping.proofs.ReplyLines.{call_fails, clear_count, clear_fails, clear_report, clear_state, failed_put, failed_then, hands_as, hands_then, late_fails, late_put, part_put, set_count, set_failed, set_late, set_state, set_whole, whole_count, whole_then}
 use Rattle.o2_stepping.proofs.replying.reply.Goals as goal
 
 -- Without the trap flag.
@@ -88,3 +88,26 @@ pub returns-in-Failed-clause-puts : goal.returns-in-Failed-clause-puts
 returns-in-Failed-clause-puts g c = λ z.
     let a = c.args in
     part_put z _ _ _ _ _ _ (sym (c.line_count-lines.ensures.count a.arguments a.pid a.answer.now.error a.answer.now.value)) refl (hands_then c.put_lines-whole.result true _ _ c.if-not-whole.false (c.put_lines-whole.ensures.puts z)) c.put_trap.ensures.puts
+
+-- Which line failed.
+
+pub returns-then-not-has_trap_flag-clause-line : goal.returns-then-not-has_trap_flag-clause-line
+returns-then-not-has_trap_flag-clause-line g c = λ e.
+    let a = c.args in
+    clear_fails a.pid a.before.now (sym c.has_trap_flag.ensures ∙ c.if-not-has_trap_flag.true) (lines_of a.arguments a.pid a.answer.now.error a.answer.now.value a.moves.now) _ _ _ _
+    (c.put_lines-whole.ensures.line e)
+
+pub returns-then-not-whole-clause-line : goal.returns-then-not-whole-clause-line
+returns-then-not-whole-clause-line g c = λ e.
+    let a = c.args in
+    call_fails a.pid a.before.now (lines_of a.arguments a.pid a.answer.now.error a.answer.now.value a.moves.now) _ _ _ _ (c.put_lines-whole.ensures.line c.if-not-whole.true)
+
+pub returns-in-Done-clause-line : goal.returns-in-Done-clause-line
+returns-in-Done-clause-line g c = λ e. absurd (cc)
+
+pub returns-in-Failed-clause-line : goal.returns-in-Failed-clause-line
+returns-in-Failed-clause-line g c = λ e.
+    let a = c.args in
+    late_fails a.pid a.before.now (sym c.has_trap_flag.ensures ∙ c.if-not-has_trap_flag.false) (lines_of a.arguments a.pid a.answer.now.error a.answer.now.value a.moves.now) _ _ _ _ _ _
+    (whole_then c.put_lines-whole.result _ _ _ c.if-not-whole.false c.put_lines-whole.ensures.report)
+    (whole_count c.put_lines-whole.result 0 _ _ _ c.if-not-whole.false (c.put_lines-whole.ensures.puts 0)) c.in-Failed.ensures.report c.put_trap.ensures.puts

@@ -2,10 +2,11 @@ use Rattle.std.proofs.Common.{◌≡◌, true, subst, sym}
 use Rattle.o2_isa.specs.View.{View}
 use Rattle.o2_gate.specs.Targets.{targets}
 use Rattle.o2_gate.specs.Pointed.{are_ready}
-use Rattle.o2_run.specs.Pieces.{counts}
+use Rattle.o2_run.specs.Pieces.{told_counts}
 use Rattle.o2_segbus.proofs.Called.{agrees, bound, leaves}
-use Rattle.o2_stepping.proofs.Buses.{aimed_there, filling, leaves_there, part_there, step_missed, step_present, bytes_there}
+use Rattle.o2_stepping.proofs.Buses.{aimed_there, filling, leaves_there, on_missed, part_there, step_missed, step_present, bytes_there}
 use Rattle.o2_stepping.proofs.Gates.{both_asked, map_undone}
+use Rattle.o2_stepping.proofs.SeatMarks.{away_whole, named_now}
 use Rattle.o2_stepping.proofs.trying.try_in.Goals as goal
 
 pub returns-clause-same_store : goal.returns-clause-same_store
@@ -59,8 +60,16 @@ pub returns-clause-part : goal.returns-clause-part
 returns-clause-part g c =
     let a = c.args.bus.now in
     let agree = agrees a c.args.cpu.now c.requires in
-    let n = counts (g.C.Sink.puts c.args.console.now) (g.C.Sink.puts c.run_one.new.console) (g.R.Sink.puts c.args.report.now) (g.R.Sink.puts c.run_one.new.report) 0 in
+    let n = told_counts (g.C.Sink.puts c.args.console.now) (g.C.Sink.puts c.run_one.new.console) (g.R.Sink.puts c.args.report.now) (g.R.Sink.puts c.run_one.new.report) 0
+    (g.R.Sink.taken c.args.report.now) (g.R.Sink.taken c.run_one.new.report) in
     record {
       part = λ text may away bytes known left same.
           part_there away a c.run_one.new.bus c.args.cpu.now c.run_one.new.cpu c.args.pid bytes known agree n c.run_one.result (c.run_one.ensures.part_as text may (filling away) bytes known (bound a) left same);
     }
+
+pub returns-clause-whole : goal.returns-clause-whole
+returns-clause-whole g c =
+    let a = c.args.bus.now in
+    on_missed _ _ c.run_one.result
+    (λ z away. away_whole a (named_now a c.args.cpu.now (agrees a c.args.cpu.now c.requires)) z away)
+    (c.run_one.ensures.away (bound a))
