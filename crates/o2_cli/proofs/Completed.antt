@@ -1,17 +1,17 @@
 -- What keeps a command from being done: a refusal, a fault, or a step that hasn't what it needs.
-use Rattle.std.proofs.Common.{inl, inr, ◌≡◌, ◌≤◌, ◌<◌, ℕ, Bool, true, false, cond, arith, List, [], ◌∷◌, map, Option, Some, None, subst, sym, refl}
+use Rattle.std.proofs.Common.{inl, inr, ◌≡◌, ◌≤◌, ◌<◌, ℕ, Bool, true, false, cond, arith, List, [], ◌∷◌, length, map, Option, Some, None, subst, sym, refl}
 use Rattle.std.proofs.lemmas.List.Sums.{sum_by-cons}
-use Rattle.std.specs.Prelude.{Ok, Err, Result, String, filter, sum}
+use Rattle.std.specs.Prelude.{Ok, Err, Result, String, filter, max, sum}
 use Rattle.std.specs.declared.alloc.Global.{Global}
 use Rattle.o2_words.specs.declared.words.Verb.{Verb}
 use Rattle.o2_words.specs.declared.words.Verb.TheVariants.{Exe, Run, Check, Dump, Bench}
 use Rattle.o2_words.specs.Words.{IsCommandFor}
 use Rattle.o2_conf.specs.Dispatch.{Dispatch}
-use Rattle.o2_world.specs.Map.{Map}
+use Rattle.o2_world.specs.Map.{Map, get}
 use Rattle.o2_world.specs.World.{World, Setting, Segment, Process}
 use Rattle.o2_world.specs.Holders.{process_at}
-use Rattle.o2_world.specs.Run.{IsBelowLast, after, before, next_dispatch}
-use Rattle.o2_run.specs.Room.{room, live_load, room_next, load_next, room_between, load_between, of_both, behind, need}
+use Rattle.o2_world.specs.Run.{IsBelowLast, after, before, next_dispatch, ready}
+use Rattle.o2_run.specs.Room.{room, live_load, room_next, load_next, room_between, load_between, of_both, behind, kept_size, larger, need, needs, rounded, size_of}
 use Rattle.o2_run.specs.Stops.{IsSwapFull, StopsFor}
 use Rattle.o2_run.specs.declared.steps.Stop.{Stop}
 use Rattle.o2_run.specs.declared.steps.Stop.TheVariants.{NoRoom, SwapFull}
@@ -34,19 +34,38 @@ use Rattle.o2_cli.proofs.Runs.{untouched}
 
 -- What is needed or locked is a part of what lives.
 
-part_le : (g : ℕ → ℕ) (c : ℕ → Bool) (xs : List ℕ) → sum (map g (filter c xs)) ≤ sum (map g xs)
-part_le g c [] = omega arith
-part_le g c (x ∷ xs) = go (c x) (part_le g c xs)
+part_le : (f g : ℕ → ℕ) (c : ℕ → Bool) → ((n : ℕ) → f n ≤ g n) → (xs : List ℕ) → sum (map f (filter c xs)) ≤ sum (map g xs)
+part_le f g c less [] = omega arith
+part_le f g c less (x ∷ xs) = go (c x) (part_le f g c less xs)
   where
-    go : (b : Bool) → sum (map g (filter c xs)) ≤ sum (map g xs) → sum (map g (cond b (x ∷ filter c xs) (filter c xs))) ≤ sum (map g (x ∷ xs))
+    go : (b : Bool) → sum (map f (filter c xs)) ≤ sum (map g xs) → sum (map f (cond b (x ∷ filter c xs) (filter c xs))) ≤ sum (map g (x ∷ xs))
     go false rest = (let whole = sum_by-cons (λ (n : ℕ). n) (g x) (map g xs) in omega (arith, whole, rest))
     go true rest =
-        (let some = sum_by-cons (λ (n : ℕ). n) (g x) (map g (filter c xs)) in
+        (let some = sum_by-cons (λ (n : ℕ). n) (f x) (map f (filter c xs)) in
         let whole = sum_by-cons (λ (n : ℕ). n) (g x) (map g xs) in
-        omega (arith, some, whole, rest))
+        let one = less x in
+        omega (arith, some, whole, one, rest))
 
-between_le : (old new : Map Segment) (need : List ℕ) → room_between old new need ≤ load_between old new
-between_le old new need = part_le _ _ (of_both old new)
+-- what is discarded is kept by none, and lives with its size
+kept_le : (o : Option Segment) → kept_size o ≤ size_of o
+kept_le None = omega arith
+kept_le (Some s) = go s.discarded
+  where
+    go : (b : Bool) → cond b 0 (length s.bytes) ≤ length s.bytes
+    go true = omega arith
+    go false = omega arith
+
+max_le : (x y z : ℕ) → x ≤ y → max x z ≤ max y z
+max_le x y z less = grind arith
+
+rounded_le : (x y : ℕ) → x ≤ y → rounded x ≤ rounded y
+rounded_le x y less = omega (arith, less)
+
+needs_le : (old new : Map Segment) (n : ℕ) → needs old new n ≤ larger old new n
+needs_le old new n = rounded_le _ _ (max_le (kept_size (get old n)) (size_of (get old n)) (size_of (get new n)) (kept_le (get old n)))
+
+between_le : (old new : Map Segment) (all : List ℕ) → room_between old new all ≤ load_between old new
+between_le old new all = part_le (needs old new) (larger old new) _ (needs_le old new) (of_both old new)
 
 next_le : (s : Setting) (w : World) (d : Dispatch) (o : Option Process) → room_next s w d o ≤ load_next s w d o
 next_le s w d None = omega arith
@@ -56,7 +75,7 @@ next_le s w d (Some p) =
 
 rooms_live : (s : Setting) (w : World) → room s w ≤ live_load s w
 unfolding room live_load
-rooms_live s w = next_le s w (next_dispatch s w) (process_at w.processes (next_dispatch s w).current)
+rooms_live s w = let v = ready w in next_le s v (next_dispatch s v) (process_at v.processes (next_dispatch s v).current)
 
 pub no_stop_for_room : (blocks : ℕ) (s : Setting) (w : World) → HasAmple blocks s w → s.memory < room s w → ⊥
 no_stop_for_room blocks s w (inl live) above = let part = rooms_live s w in absurd (omega (arith, live, part, above))

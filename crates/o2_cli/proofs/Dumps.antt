@@ -1,15 +1,20 @@
 -- The run of a dump, by what its machine began with, and the image behind it.
-use Rattle.std.proofs.Common.{◌≡◌, ℕ, ◌+◌, ◌∙◌, [], Bool, true, false, ap, length, List, Option, Some, refl, subst, sym}
+use Rattle.std.proofs.Common.{◌≡◌, ℕ, ◌+◌, ◌++◌, ◌∙◌, [], Bool, true, false, ap, length, List, Option, Some, refl, subst, sym}
 use Rattle.std.proofs.lemmas.Bool.{false≢true}
 use Rattle.std.specs.Prelude.{Result, Ok, Err}
 use Rattle.o2_words.specs.declared.words.Verb.TheVariants.{Dump}
-use Rattle.o2_world.specs.World.{World}
+use Rattle.o2_outer.specs.Texts.{Gains}
+use Rattle.o2_world.specs.World.{World, Line}
 use Rattle.o2_world.specs.Starts.{Built}
+use Rattle.o2_world.specs.Run.{after}
+use Rattle.o2_world.specs.Text.{lines_text}
+use Rattle.o2_world.proofs.Words.{ready_stays}
 use Rattle.o2_run.specs.declared.steps.Stop.{Stop}
 use Rattle.o2_run.specs.declared.steps.Stop.TheVariants.{Input, NoRoom, SwapFull, SwapFault}
 use Rattle.o2_run.specs.declared.fault.Fault.{Fault}
 use Rattle.o2_run.specs.declared.fault.Fault.TheVariants.{Sink, Stopped}
 use Rattle.o2_run.specs.Pieces.{counts}
+use Rattle.o2_run.specs.Stops.{stop_line}
 use Rattle.o2_run.proofs.Reached.{part_from}
 use Rattle.o2_machine.specs.Begins.{setting_of, starting, first_world}
 use Rattle.o2_machine.specs.Lasts.{machine_swaps}
@@ -85,7 +90,10 @@ module _ (s : Session) (built : Built) (starts : starting s.linked s.conf ≡ Ok
       record {
         written = h.0;
         run = earlier_stop machine_swaps (setting_of s.conf) (first_world s.linked s.conf input built) j (Some []) (Some h.0.bytes) r q 0 h.0.pieces x y z (length built.lines) front blocks why since e later h.1.0;
-        behind = behind _ h.1.1 h.1.2;
+        behind =
+            behind _ h.1.1
+            (subst (λ (ls : List Line). IsPut put (Gains r q (lines_text ls ++ stop_line why)) since)
+            (sym (ready_stays (after (setting_of s.conf) (first_world s.linked s.conf input built) h.1.0.steps)).lines) h.1.2);
       }
 
   -- no image is put

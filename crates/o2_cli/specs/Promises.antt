@@ -28,8 +28,8 @@ pub record Promises {F I C R S : Type 0} (words : List (String Global)) (f : Fil
   -- Both texts are those of the boundless machine over all files that agree with what was fetched, or fronts of them, where each
   -- block that was read had what was written to it last; each line of the report is one put, and so is the piece for the console
   -- of each step that has one. Of a bench the console gains its line alone, by one put, where the run is over; of a dump a core image
-  -- that stands for the world at its end, or for that of a stop for room or for swap whose line was put: of such a stop the image
-  -- lacks only where the report's last put, which is that of the line, failed.
+  -- that stands for the world at its end, or for that of a stop for room or for swap whose line was put, behind the words
+  -- `discard` before the step: of such a stop the image lacks only where the report's last put, which is that of the line, failed.
   -- The input is seen by what it tells, or as any text that the whole of it may be when the call comes back: what it has given
   -- is a front of it, and all of it where it has ended.
   pub texts : IsTrue (s.told s.new) → (text : Option (List ℕ)) → IsSeenAs text (i.past i.new)

@@ -1,7 +1,7 @@
 -- A run whose programs write nowhere: what they write is counted, and the console has something else of it, or nothing.
 use Rattle.std.specs.Prelude.{◌≡◌, ℕ, List, [], Option, Some}
 use Rattle.o2_world.specs.World.{World}
-use Rattle.o2_world.specs.Run.{after}
+use Rattle.o2_world.specs.Run.{after, ready}
 use Rattle.o2_run.specs.Ended.{HasPartRun, HasStoppedTexts, HasWholeRun}
 use Rattle.o2_run.specs.Pieces.{Counts, counts}
 use Rattle.o2_run.specs.declared.steps.Stop.{Stop}
@@ -33,10 +33,10 @@ pub record IsPart (o : Opened) (left report_old report_new : Option (List ℕ)) 
   pub written : Written
   pub run : HasPartRun machine_swaps o.setting o.world left (Some []) (Some written.bytes) report_old report_new (beside written puts)
 
--- the run is stopped so, and P holds of the world before the step
+-- the run is stopped so, and P holds of the world before the step, behind the words `discard` that come before it
 pub record IsStopped (blocks : ℕ) (o : Opened) (why : Stop) (left report_old report_new : Option (List ℕ)) (fault : Type 0) (puts : Counts)
     (P : World → Type 0) : Type 0 where
   pub written : Written
   pub run : HasStoppedTexts machine_swaps blocks o.setting o.world why left (Some []) (Some written.bytes) report_old report_new fault
       (beside written puts)
-  pub behind : P (after o.setting o.world run.steps)
+  pub behind : P (ready (after o.setting o.world run.steps))

@@ -5,19 +5,20 @@ use Rattle.std.specs.List.{list_any}
 use Rattle.std.proofs.lemmas.Grind.{flat_map-append}
 use Rattle.std.proofs.lemmas.List.{append-nil, append_assoc}
 use Rattle.o2_base.specs.declared.faults.ModuleFault.{ModuleFault}
+use Rattle.o2_conf.specs.Dispatch.{Dispatch}
 use Rattle.o2_world.specs.World.{Line, Process, Setting, World}
 use Rattle.o2_world.specs.Holders.{process_at}
 use Rattle.o2_world.specs.CallParts.{Before, Effect}
 use Rattle.o2_world.specs.Changes.{Change, Makes, Resizes, Locks, Marks, Holds, Drops, Finishes, Reserves, Frees, Names, swept, takes, with_all, with_change, with_changes}
 use Rattle.o2_world.specs.Effect.{effect}
-use Rattle.o2_world.specs.Run.{after, all_changes, before, changed, console, is_over, next_dispatch, step, worked}
+use Rattle.o2_world.specs.Run.{acted, after, all_changes, before, changed, console, is_over, next_dispatch, ready, step, worked}
 use Rattle.o2_world.specs.Starts.{Built, Start, started_as, where_started}
 use Rattle.o2_world.proofs.Keeps.{over_stays}
 use Rattle.o2_world.proofs.MapLemmas.{if_no, if_yes}
 use Rattle.o2_world.proofs.StepSound.{next_process}
+use Rattle.o2_world.proofs.Words.{StaysBehind, next_ready, ready_stays, step_runs}
 use Rattle.o2_alone.specs.Alone.{before_it, opening_alone}
 use Rattle.o2_alone.specs.Events.{Event, chosen_before, event_list, events, events_of, next_before, own_steps}
-use Rattle.o2_alone.proofs.Isolated.{step_is}
 use Rattle.o2_isolation.specs.Strangers.{IsStranger, StaysApart}
 use Rattle.o2_cli_laws.specs.Texts.{lines_in, pieces_in}
 
@@ -61,11 +62,6 @@ all_texts w cs =
 
 -- A step.
 
-next_is : (s : Setting) (w : World) (p : Process) → is_over w ≡ false → process_at w.processes (next_dispatch s w).current ≡ Some p
-    → next_before s w ≡ Some (before s w (next_dispatch s w).current p)
-next_is s w p runs at =
-    if_no (is_over w) None (chosen_before s w (next_dispatch s w)) runs ∙ ap (option_map (before s w (next_dispatch s w).current)) at
-
 one_step : (s : Setting) (w : World) → AreTexts (step s w) (w.console ++ pieces_in (event_list (next_before s w))) (w.lines ++ lines_in (event_list (next_before s w)))
 unfolding changed
 one_step s w = by_end (is_over w) refl
@@ -73,25 +69,37 @@ one_step s w = by_end (is_over w) refl
     by_end : (t : Bool) → is_over w ≡ t → AreTexts (step s w) (w.console ++ pieces_in (event_list (next_before s w))) (w.lines ++ lines_in (event_list (next_before s w)))
     by_end true over =
         let stays = over_stays s w over in
-        let none : next_before s w ≡ None = if_yes (is_over w) None (chosen_before s w (next_dispatch s w)) over in
+        let none : next_before s w ≡ None = if_yes (is_over w) None (chosen_before s (ready w) (next_dispatch s w)) over in
         record {
           console = ap (λ (v : World). v.console) stays ∙ (sym (append-nil w.console) ∙ ap (λ (o : Option Before). w.console ++ pieces_in (event_list o)) (sym none));
           lines = ap (λ (v : World). v.lines) stays ∙ (sym (append-nil w.lines) ∙ ap (λ (o : Option Before). w.lines ++ lines_in (event_list o)) (sym none));
         }
-    by_end false runs = moved (next_process s w runs).0 (next_process s w runs).1
+    by_end false runs =
+        let here = next_process s w runs in
+        moved here.0 (ap (λ (ps : List Process). process_at ps d.current) behind.processes ∙ here.1)
       where
-        moved : (p : Process) → process_at w.processes (next_dispatch s w).current ≡ Some p
+        v : World
+        v = ready w
+
+        d : Dispatch
+        d = next_dispatch s w
+
+        behind : StaysBehind w (ready w)
+        behind = ready_stays w
+
+        moved : (p : Process) → process_at v.processes d.current ≡ Some p
             → AreTexts (step s w) (w.console ++ pieces_in (event_list (next_before s w))) (w.lines ++ lines_in (event_list (next_before s w)))
         moved p at =
-            let e : Effect = effect (before s w (next_dispatch s w).current p) in
-            let texts = all_texts (worked w (next_dispatch s w) p e) (all_changes (next_dispatch s w).current e) in
-            let next = next_is s w p runs at in
-            let is = step_is s w p runs at in
+            let e : Effect = effect (before s v d.current p) in
+            let texts = all_texts (worked v d p e) (all_changes d.current e) in
+            let next : next_before s w ≡ Some (before s v d.current p) = if_no (is_over w) None (chosen_before s v d) runs ∙ ap (option_map (before s v d.current)) at in
+            let is : step s w ≡ changed v d p e =
+            step_runs s w runs ∙ (ap (λ (x : Dispatch). acted s v x (process_at v.processes x.current)) (next_ready s w) ∙ ap (acted s v d) at) in
             record {
-              console = ap (λ (v : World). v.console) is ∙ (texts.console ∙ (ap (λ (bs : List ℕ). w.console ++ bs) (sym (append-nil e.piece))
-                  ∙ ap (λ (o : Option Before). w.console ++ pieces_in (event_list o)) (sym next)));
-              lines = ap (λ (v : World). v.lines) is ∙ (texts.lines ∙ (ap (λ (ls : List Line). w.lines ++ ls) (sym (append-nil e.lines))
-                  ∙ ap (λ (o : Option Before). w.lines ++ lines_in (event_list o)) (sym next)));
+              console = ap (λ (u : World). u.console) is ∙ (texts.console ∙ (ap (λ (bs : List ℕ). bs ++ e.piece) behind.console
+                  ∙ (ap (λ (bs : List ℕ). w.console ++ bs) (sym (append-nil e.piece)) ∙ ap (λ (o : Option Before). w.console ++ pieces_in (event_list o)) (sym next))));
+              lines = ap (λ (u : World). u.lines) is ∙ (texts.lines ∙ (ap (λ (ls : List Line). ls ++ e.lines) behind.lines
+                  ∙ (ap (λ (ls : List Line). w.lines ++ ls) (sym (append-nil e.lines)) ∙ ap (λ (o : Option Before). w.lines ++ lines_in (event_list o)) (sym next))));
             }
 
 -- The run.

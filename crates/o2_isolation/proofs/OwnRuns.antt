@@ -13,7 +13,7 @@ use Rattle.o2_world.specs.Known.{Marks as SegmentMarks}
 use Rattle.o2_world.specs.declared.types.Slot.{Slot}
 use Rattle.o2_world.specs.CallParts.{Before, Effect, argument}
 use Rattle.o2_world.specs.Rulings.{Ruling, refusal, held_under, free_index, allocation, allocation_at, region_by, is_alias, is_in_run, full_size}
-use Rattle.o2_world.specs.Rulings.{reallocation_of, reallocation_with, keeps_its_size, members, indexes, is_later, in_use, by_load, freeing_of, sizing_of}
+use Rattle.o2_world.specs.Rulings.{reallocation_of, reallocation_with, resizes_with, keeps_its_size, members, indexes, is_later, in_use, by_load, freeing_of, sizing_of}
 use Rattle.o2_world.specs.Rulings.{sizing_with, is_discardable, locking_of, locking_with, unlocking_of, unlocking_with, aliasing_of, aliasing_at}
 use Rattle.o2_world.specs.Outcomes.{CallRow, Outcome, ruled}
 use Rattle.o2_world.specs.Calls.{aliasing_by, allocation_by, avail_by, freeing_by, huge_allocation_by, huge_reallocation_by, locking_by, reallocation_by, rows, serviced, shift_by, sizing_by, unlocking_by}
@@ -89,13 +89,17 @@ module _ (b : Before) where
       at_index None = tt
       at_index (Some i) = (tt, (refl, tt))
 
+  resizes : (name size : ℕ) (discarded : Bool) → AreUnshared (resizes_with name size discarded)
+  resizes name size true = (tt, (tt, (tt, tt)))
+  resizes name size false = (tt, tt)
+
   realloc_unshared : (size : ℕ) (o : Option Held) → AreUnshared (reallocation_of b.known (full_size size) o).changes
   realloc_unshared size None = tt
   realloc_unshared size (Some h) = rules (is_alias h.cause || is_in_run h) _ _ tt (λ _. by_marks (b.known.segment h.name))
     where
       by_marks : (o : Option SegmentMarks) → AreUnshared (reallocation_with h.name (full_size size) o).changes
       by_marks None = tt
-      by_marks (Some m) = rules (keeps_its_size (full_size size) m) _ _ tt (λ changes. (tt, tt))
+      by_marks (Some m) = rules (keeps_its_size (full_size size) m) _ _ tt (λ changes. resizes h.name (full_size size) m.discarded)
 
   drops_unshared : (is : List ℕ) → AreUnshared (map (λ (i : ℕ). Drops b.number i 1) is)
   drops_unshared [] = tt
@@ -119,7 +123,7 @@ module _ (b : Before) where
     where
       by_marks : (o : Option SegmentMarks) → AreUnshared (locking_with h.name o).changes
       by_marks None = tt
-      by_marks (Some m) = rules (is_discardable m) _ _ (tt, tt) (λ _. tt)
+      by_marks (Some m) = rules (is_discardable m) _ _ (rules m.discarded _ _ tt (λ _. (tt, tt))) (λ _. tt)
 
   unlock_unshared : (o : Option Held) → AreUnshared (unlocking_of b.known o).changes
   unlock_unshared None = tt

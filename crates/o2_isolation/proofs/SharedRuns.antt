@@ -16,7 +16,7 @@ use Rattle.o2_world.specs.Changes.{Change, Makes, Resizes, Locks, Marks, Holds, 
 use Rattle.o2_world.specs.Rulings.{held_under}
 use Rattle.o2_world.specs.Effect.{effect}
 use Rattle.o2_world.specs.Giving.{gives}
-use Rattle.o2_world.specs.Run.{after, all_changes, before, changed, is_over, next_dispatch, step, worked, working}
+use Rattle.o2_world.specs.Run.{after, all_changes, before, changed, is_over, next_dispatch, ready, step, words_coming, worked, working}
 use Rattle.o2_world.specs.Starts.{Start, opening_of}
 use Rattle.o2_world.proofs.ByNumber.{IsOf, from_number}
 use Rattle.o2_world.proofs.Keeps.{other_number, over_stays}
@@ -26,6 +26,7 @@ use Rattle.o2_world.proofs.OpeningLoads.{opening_loads}
 use Rattle.o2_world.proofs.Reached.{get-put}
 use Rattle.o2_world.proofs.StepReach.{own_at}
 use Rattle.o2_world.proofs.StepSound.{next_process}
+use Rattle.o2_world.proofs.Words.{ready_at_once}
 use Rattle.o2_alone.specs.Events.{chosen_before, next_before}
 use Rattle.o2_alone.specs.Keeping.{IsQuiet, IsUngiven, KeepsToItself, meets}
 use Rattle.o2_alone.specs.Renaming.{asking_of, call_of, is_shared_run, reaches_shared}
@@ -221,13 +222,14 @@ module _ (number : ℕ) where
 
   -- Behind a step.
 
-  next_is : (s : Setting) (w : World) (p : Process) → is_over w ≡ false → process_at w.processes (next_dispatch s w).current ≡ Some p
+  next_is : (s : Setting) (w : World) (p : Process) → is_over w ≡ false → words_coming w ≡ 0 → process_at w.processes (next_dispatch s w).current ≡ Some p
       → next_before s w ≡ Some (before s w (next_dispatch s w).current p)
-  next_is s w p runs at =
-      if_no (is_over w) None (chosen_before s w (next_dispatch s w)) runs ∙ ap (option_map (before s w (next_dispatch s w).current)) at
+  next_is s w p runs wordless at =
+      if_no (is_over w) None (chosen_before s (ready w) (next_dispatch s w)) runs
+      ∙ (ap (λ (v : World). chosen_before s v (next_dispatch s w)) (ready_at_once w wordless) ∙ ap (option_map (before s w (next_dispatch s w).current)) at)
 
-  step_kept : (s : Setting) (w : World) → IsUngiven s w number → IsQuiet s w number → HoldsNoSharedRun w number → HoldsNoSharedRun (step s w) number
-  step_kept s w ungiven quiet kept = by_end (is_over w) refl
+  step_kept : (s : Setting) (w : World) → words_coming w ≡ 0 → IsUngiven s w number → IsQuiet s w number → HoldsNoSharedRun w number → HoldsNoSharedRun (step s w) number
+  step_kept s w wordless ungiven quiet kept = by_end (is_over w) refl
     where
       d : Dispatch
       d = next_dispatch s w
@@ -235,22 +237,24 @@ module _ (number : ℕ) where
       own : (p : Process) → is_over w ≡ false → process_at w.processes d.current ≡ Some p → (t : Bool) → (d.current == number) ≡ t → AreUnsharedFor number (effect (before s w d.current p)).changes
       own p runs at true is =
           let one : Before = before s w d.current p in
-          for_all number (effect one).changes (effect_unshared one (quiet_itself one (call_of one) (number_some w.processes d.current p at) (quiet one (next_is s w p runs at) (eqb-true d.current number is))))
+          for_all number (effect one).changes (effect_unshared one (quiet_itself one (call_of one) (number_some w.processes d.current p at) (quiet one (next_is s w p runs wordless at) (eqb-true d.current number is))))
       own p runs at false is =
           let one : Before = before s w d.current p in
-          not_given number (effect one).changes (ungiven one (next_is s w p runs at) (λ same. false≢true (sym is ∙ eq-eqb d.current number same)))
+          not_given number (effect one).changes (ungiven one (next_is s w p runs wordless at) (λ same. false≢true (sym is ∙ eq-eqb d.current number same)))
 
       by_end : (t : Bool) → is_over w ≡ t → HoldsNoSharedRun (step s w) number
       by_end true over = subst (λ (z : World). HoldsNoSharedRun z number) (sym (over_stays s w over)) kept
       by_end false runs =
           let here = next_process s w runs in
-          subst (λ (z : World). HoldsNoSharedRun z number) (sym (step_is s w here.0 runs here.1))
+          subst (λ (z : World). HoldsNoSharedRun z number) (sym (step_is s w here.0 runs wordless here.1))
           (changed_kept s w d here.0 here.1 (own here.0 runs here.1 (d.current == number) refl) kept)
 
   -- A call of DosReallocHuge meets nobody.
 
-  known_is : (s : Setting) (w : World) (b : Before) → next_before s w ≡ Some b → b.known ≡ known_of s w
-  known_is s w b next = by_end (is_over w) (process_at w.processes (next_dispatch s w).current) next
+  known_is : (s : Setting) (w : World) (b : Before) → words_coming w ≡ 0 → next_before s w ≡ Some b → b.known ≡ known_of s w
+  known_is s w b wordless next =
+      by_end (is_over w) (process_at w.processes (next_dispatch s w).current)
+      (sym (ap (λ (v : World). cond (is_over w) None (chosen_before s v (next_dispatch s w))) (ready_at_once w wordless)) ∙ next)
     where
       none_before : ◌≡◌ {A = Option Before} None (Some b) → b.known ≡ known_of s w
       none_before e = cc
@@ -282,11 +286,11 @@ module _ (number : ℕ) where
       go true e = e
       go false e = refl
 
-  all_quiet : (s : Setting) (w : World) → MeetsNobody s w number → HoldsNoSharedRun w number → IsQuiet s w number
-  all_quiet s w strange kept b next is = by_call (call_of b) (strange b next is)
+  all_quiet : (s : Setting) (w : World) → words_coming w ≡ 0 → MeetsNobody s w number → HoldsNoSharedRun w number → IsQuiet s w number
+  all_quiet s w wordless strange kept b next is = by_call (call_of b) (strange b next is)
     where
       held : (i : ℕ) (h : Held) → b.known.held b.number i ≡ Some h → is_shared_run h ≡ false
-      held i h e = kept i h (ap (λ (n : ℕ). held_at w.processes n i) (sym is) ∙ (sym (ap (λ (k : Known). k.held b.number i) (known_is s w b next)) ∙ e))
+      held i h e = kept i h (ap (λ (n : ℕ). held_at w.processes n i) (sym is) ∙ (sym (ap (λ (k : Known). k.held b.number i) (known_is s w b wordless next)) ∙ e))
 
       by_number : (service : ℕ) (t : Bool) → (service == dos_realloc_huge) ≡ t → (not t && meets b (Some service)) ≡ false → meets b (Some service) ≡ false
       by_number service true same e =
@@ -301,20 +305,25 @@ module _ (number : ℕ) where
 
   module _ (s : Setting) (w alone : World) (first : HoldsNoSharedRun w number) where
     -- before each of the first k steps, and behind them
-    behind : (k : ℕ) → ((j : ℕ) → j < k → IsUngiven s (after s w j) number) → ((j : ℕ) → j < k → MeetsNobody s (after s w j) number) → HoldsNoSharedRun (after s w k) number
-    behind zero ungiven strange = first
-    behind (suc k) ungiven strange =
-        let so_far = behind k (λ j low. ungiven j (omega (arith, low))) (λ j low. strange j (omega (arith, low))) in
-        step_kept s (after s w k) (ungiven k (omega arith)) (all_quiet s (after s w k) (strange k (omega arith)) so_far) so_far
+    behind : (k : ℕ) → ((j : ℕ) → j < k → words_coming (after s w j) ≡ 0) → ((j : ℕ) → j < k → IsUngiven s (after s w j) number) → ((j : ℕ) → j < k → MeetsNobody s (after s w j) number)
+        → HoldsNoSharedRun (after s w k) number
+    behind zero wordless ungiven strange = first
+    behind (suc k) wordless ungiven strange =
+        let so_far = behind k (λ j low. wordless j (omega (arith, low))) (λ j low. ungiven j (omega (arith, low))) (λ j low. strange j (omega (arith, low))) in
+        let none = wordless k (omega arith) in
+        step_kept s (after s w k) none (ungiven k (omega arith)) (all_quiet s (after s w k) none (strange k (omega arith)) so_far) so_far
 
     pub no_run : (k : ℕ) → StaysApart s w alone number k → HoldsNoSharedRun (after s w k) number
-    no_run k stays = behind k stays.ungiven stays.strange
+    no_run k stays = behind k stays.wordless stays.ungiven stays.strange
 
     pub keeps : (k : ℕ) → StaysApart s w alone number k → KeepsToItself s w alone number k
     keeps k stays = record {
+      wordless = stays.wordless;
       apart = stays.apart;
       ungiven = stays.ungiven;
-      quiet = λ j low. all_quiet s (after s w j) (stays.strange j low) (behind j (λ i less. stays.ungiven i (omega (arith, low, less))) (λ i less. stays.strange i (omega (arith, low, less))));
+      quiet = λ j low.
+          all_quiet s (after s w j) (stays.wordless j low) (stays.strange j low)
+          (behind j (λ i less. stays.wordless i (omega (arith, low, less))) (λ i less. stays.ungiven i (omega (arith, low, less))) (λ i less. stays.strange i (omega (arith, low, less))));
       room = stays.room;
       room_alone = stays.room_alone;
     }
@@ -334,6 +343,7 @@ opened_unshared s reserved script input starts w e number i h is = no_run h (ope
 -- nothing else is asked of a process that keeps to itself
 pub keeps_apart : (s : Setting) (w alone : World) (number k : ℕ) → KeepsToItself s w alone number k → StaysApart s w alone number k
 keeps_apart s w alone number k keeps = record {
+  wordless = keeps.wordless;
   apart = keeps.apart;
   ungiven = keeps.ungiven;
   strange = λ j low b next is. by_call b (call_of b) (keeps.quiet j low b next is);

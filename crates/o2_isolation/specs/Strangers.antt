@@ -3,7 +3,7 @@ use Rattle.std.specs.Prelude.{◌≡◌, ℕ, ◌<◌, ◌==◌, ◌&&◌, Bool,
 use Rattle.o2_world.specs.World.{World, Setting, Held}
 use Rattle.o2_world.specs.Known.{held_at}
 use Rattle.o2_world.specs.CallParts.{Before}
-use Rattle.o2_world.specs.Run.{after}
+use Rattle.o2_world.specs.Run.{after, words_coming}
 use Rattle.o2_world.specs.Starts.{Start}
 use Rattle.o2_alone.specs.Events.{next_before, own_steps}
 use Rattle.o2_alone.specs.Renaming.{call_of, is_shared_run}
@@ -27,6 +27,8 @@ MeetsNobody s w number = (b : Before) → next_before s w ≡ Some b → b.numbe
 -- As KeepsToItself of o2_alone, over the first k steps of the run that begins in w, and over as many steps of its run alone as it
 -- does itself there.
 pub record StaysApart (s : Setting) (w alone : World) (number k : ℕ) : Type 0 where
+  -- no word `discard` comes before a step
+  pub wordless : (j : ℕ) → j < k → words_coming (after s w j) ≡ 0
   -- before each step, whosever it is
   pub apart : (j : ℕ) → j < k → IsApart (after s w j) number
   pub ungiven : (j : ℕ) → j < k → IsUngiven s (after s w j) number

@@ -11,7 +11,7 @@ use Rattle.o2_world.specs.Known.{Known, Marks as SegmentMarks}
 use Rattle.o2_regions.specs.Maps.{Maps}
 use Rattle.o2_segs.specs.Sharing.{AreHeldAtMost}
 use Rattle.o2_shared.specs.Shares.{AreFew}
-use Rattle.o2_world.specs.Moves.{AllMoves, Moves, NoRun, NoneMoves, OneAliased, OneLocked, OneMade, OneNamed, OneRun, OneSized, OwnMoves, RunMade, RunMoves, RunSized, SomeFreed, SomeShared}
+use Rattle.o2_world.specs.Moves.{AllMoves, Moves, NoRun, NoneMoves, OneAliased, OneLocked, OneMade, OneNamed, OneRemade, OneRun, OneSized, OwnMoves, RunMade, RunMoves, RunSized, SomeFreed, SomeShared}
 use Rattle.o2_world.specs.Rulings.{full_size}
 use Rattle.o2_world.specs.Run.{all_changes, changed, live_flags, worked, working}
 use Rattle.o2_world.specs.SharedRulings.{each_more, marks_under, one_more}
@@ -122,7 +122,8 @@ moves_end_none : (b : Before) (cpu : Cpu) (cs : List Change) → Moves b cpu cs 
 moves_end_none b cpu cs (NoneMoves is) = subst AreNoEnds (sym is) tt
 moves_end_none b cpu cs (OneMade size flags i free is) = subst AreNoEnds (sym is) (tt, (tt, tt))
 moves_end_none b cpu cs (OneSized name size alone is) = subst AreNoEnds (sym is) (tt, tt)
-moves_end_none b cpu cs (OneLocked name count is) = subst AreNoEnds (sym is) (tt, tt)
+moves_end_none b cpu cs (OneRemade name size alone is) = subst AreNoEnds (sym is) (tt, (tt, (tt, tt)))
+moves_end_none b cpu cs (OneLocked name count lockable is) = subst AreNoEnds (sym is) (tt, tt)
 moves_end_none b cpu cs (OneAliased index i h there alone free is) = subst AreNoEnds (sym is) (tt, tt)
 moves_end_none b cpu cs (SomeFreed xs frees is) = subst AreNoEnds (sym is) (drops_end_none b.number xs)
 

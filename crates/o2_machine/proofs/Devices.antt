@@ -31,7 +31,7 @@ module _ (t : Shelf) (n : Maps) (images : ImageList) (running : ℕ → Option R
   }
 
   segment_over : (k : ℕ) (x : Segment) → IsSegment parts_first k x → IsSegment parts_then k x
-  segment_over k x is = record { size = is.size; bytes = is.bytes; clean = is.clean; flags = is.flags; lock = is.lock; shared = is.shared }
+  segment_over k x is = record { size = is.size; bytes = is.bytes; clean = is.clean; flags = is.flags; lock = is.lock; shared = is.shared; discarded = is.discarded }
 
   named_over : (o : Option ℕ) (v : Option Segment) → IsNamed parts_first o v → IsNamed parts_then o v
   named_over None None is = is

@@ -1,6 +1,7 @@
 pub mod Behinds
 pub mod FirstNames
 pub mod Turns
+pub mod Wordings
 pub mod Marks
 pub mod StartLines
 pub mod Devices

@@ -1,12 +1,12 @@
 -- What a turn does to the world that the machine stands for.
-use Rattle.std.proofs.Common.{◌≡◌, ℕ, ◌+◌, ◌-◌, ◌⊎◌, Bool, true, false, not, List, [], ◌∷◌, ◌++◌, Option, Some, ap, sym, ◌∙◌, refl, inl, inr, ◌==◌, if◌then◌else◌, subst, slice_set, length, length-append, arith}
+use Rattle.std.proofs.Common.{◌≡◌, ℕ, ◌+◌, ◌-◌, ◌<◌, nat_lt, ◌⊎◌, Bool, true, false, not, List, [], ◌∷◌, ◌++◌, Option, Some, ap, sym, ◌∙◌, refl, inl, inr, ◌==◌, if◌then◌else◌, subst, slice_set, length, length-append, arith}
 use Rattle.std.specs.Prelude.{codes, Ok}
 use Rattle.std.specs.List.{list_any}
 use Rattle.std.proofs.lemmas.Grind.{flat_map-append}
 use Rattle.o2_outer.specs.Texts.{Gains, GainsSome, IsPrefix, Continues}
 use Rattle.o2_outer.proofs.TextLemmas.{continues_by, continues_in_part, gains_some}
 use Rattle.o2_world.specs.World.{Line, World, Setting, Process, is_live}
-use Rattle.o2_conf.specs.Dispatch.{Dispatch, counted, lives}
+use Rattle.o2_conf.specs.Dispatch.{Dispatch, counted, lives, words_ahead}
 use Rattle.o2_world.specs.declared.types.State.TheVariants.{Live}
 use Rattle.o2_world.specs.Holders.{process_at}
 use Rattle.o2_world.specs.Calls.{Effect}
@@ -17,19 +17,21 @@ use Rattle.o2_world.proofs.StepMoves.{effect_moves}
 use Rattle.o2_world.proofs.StepSound.{step_sound}
 use Rattle.o2_world.proofs.StepTold.{step_told}
 use Rattle.o2_world.specs.Reach.{IsTold}
-use Rattle.o2_world.specs.Run.{before, changed, step, is_over, IsReadNext, any_lives, live_flags, console, last_line, next_dispatch, working}
-use Rattle.o2_world.proofs.Budget.{step_runs}
+use Rattle.o2_world.specs.Run.{before, changed, step, is_over, IsReadNext, any_lives, live_flags, console, last_line, next_dispatch, with_word, words_coming, working}
+use Rattle.o2_world.proofs.Words.{ready_at_once, step_at_once}
 use Rattle.o2_world.proofs.Flags.{live_process}
 use Rattle.o2_run.specs.Room.{Fits}
-use Rattle.o2_run.specs.Turn.{StepsOn, StepsInPart, IsStopped, IsClosed, IsClosedInPart, Turns, Caused, LineIs, OnRan}
-use Rattle.o2_run.specs.Pieces.{counts, Hands, HandsUpTo, FailedHands, puts_of, step_puts}
+use Rattle.o2_run.specs.Turn.{StepsOn, StepsInPart, IsStopped, IsClosed, IsClosedInPart, Turns, Caused, LineIs, OnGoing}
+use Rattle.o2_run.specs.Pieces.{counts, told_counts, AtLine, FailedHands, FailsIn, FaultPart, Hands, puts_of, step_puts}
+use Rattle.o2_stepping.specs.Pieces.{LatePart}
 use Rattle.o2_run.specs.Stops.{StopFits, StopsFor, stop_line}
 use Rattle.o2_run.specs.declared.steps.Stop.{Stop}
 use Rattle.o2_run.specs.declared.steps.Stop.TheVariants.{Input, NoRoom, SwapFull, SwapFault}
 use Rattle.o2_run.specs.declared.steps.Turn.{Turn}
 use Rattle.o2_run.specs.declared.steps.Turn.TheVariants as turn
-use Rattle.o2_sched.specs.Schedule.{Schedule, next_of, pick_of}
-use Rattle.o2_sched.specs.declared.sched.Pick.TheVariants.{Step, AllEnded, BudgetSpent}
+use Rattle.o2_sched.specs.Schedule.{PicksLive, Schedule, has_word, next_of, pick_of}
+use Rattle.o2_sched.specs.declared.sched.Pick.{Pick}
+use Rattle.o2_sched.specs.declared.sched.Pick.TheVariants.{Step, Discard, AllEnded, BudgetSpent}
 use Rattle.o2_stepping.specs.Ran.{TakesText}
 use Rattle.o2_stands.specs.Stands.{IsSetTo, IsTidy, Stands}
 use Rattle.o2_stands.proofs.Matching.{stood_by}
@@ -44,7 +46,7 @@ use Rattle.o2_space.specs.declared.space.Space.{Space}
 use Rattle.o2_machine.specs.Steppeds.{stepped_sched}
 use Rattle.o2_stepping.specs.declared.one_step.Ran.{Ran}
 use Rattle.o2_run.specs.declared.fault.Fault.{Fault}
-use Rattle.o2_run.specs.declared.fault.Fault.TheVariants.{Stopped}
+use Rattle.o2_run.specs.declared.fault.Fault.TheVariants.{Sink, Stopped}
 use Rattle.o2_run.specs.Faults.{CauseOf, turn_of}
 use Rattle.o2_stepping.specs.Tallies.{IsTally}
 use Rattle.o2_machine.specs.StandsFor.{StandsFor}
@@ -75,31 +77,85 @@ pub record IsSame (m n : Machine) : Type 0 where
 record IsPicked (s : Schedule) (n : ℕ) : Type 0 where
   any : any_of s ≡ true
   some : (s.dispatch.budget == 0) ≡ false
+  wordless : has_word s ≡ false
   number : (next_of s).current ≡ n
 
-pub by_parts : (any none : Bool) (a b : ℕ) → (if not any then AllEnded else (if none then BudgetSpent else Step a)) ≡ Step b → (any ≡ true) × ((none ≡ false) × (a ≡ b))
-by_parts true true a b e = absurd (cc)
-by_parts true false a b e = (refl, (refl, cc))
-by_parts false none a b e = absurd (cc)
+-- by whether any lives, whether no budget is left, and whether a word comes
+abbrev by_tests : (any none word : Bool) → ℕ → Pick
+by_tests any none word a = if not any then AllEnded else (if none then BudgetSpent else (if word then Discard else Step a))
+
+by_parts : (any none word : Bool) (a b : ℕ) → by_tests any none word a ≡ Step b → (any ≡ true) × ((none ≡ false) × ((word ≡ false) × (a ≡ b)))
+by_parts true true word a b e = absurd (cc)
+by_parts true false true a b e = absurd (cc)
+by_parts true false false a b e = (refl, (refl, (refl, cc)))
+by_parts false none word a b e = absurd (cc)
 
 picked : (s : Schedule) (n : ℕ) → pick_of s ≡ Step n → IsPicked s n
-picked s n e = let three = by_parts (any_of s) (s.dispatch.budget == 0) (next_of s).current n e in record { any = three.0; some = three.1.0; number = three.1.1 }
+picked s n e =
+    let four = by_parts (any_of s) (s.dispatch.budget == 0) (has_word s) (next_of s).current n e in
+    record { any = four.0; some = four.1.0; wordless = four.1.1.0; number = four.1.1.1 }
 
-pub by_ended : (any none : Bool) (a : ℕ) → (if not any then AllEnded else (if none then BudgetSpent else Step a)) ≡ AllEnded → any ≡ false
-by_ended true true a e = absurd (cc)
-by_ended true false a e = absurd (cc)
-by_ended false none a e = refl
+by_ended : (any none word : Bool) (a : ℕ) → by_tests any none word a ≡ AllEnded → any ≡ false
+by_ended true true word a e = absurd (cc)
+by_ended true false true a e = absurd (cc)
+by_ended true false false a e = absurd (cc)
+by_ended false none word a e = refl
 
-pub by_spent : (any none : Bool) (a : ℕ) → (if not any then AllEnded else (if none then BudgetSpent else Step a)) ≡ BudgetSpent → (any ≡ true) × (none ≡ true)
-by_spent true true a e = (refl, refl)
-by_spent true false a e = absurd (cc)
-by_spent false none a e = absurd (cc)
+pub none_left : (s : Schedule) → pick_of s ≡ AllEnded → any_of s ≡ false
+none_left s e = by_ended (any_of s) (s.dispatch.budget == 0) (has_word s) (next_of s).current e
+
+by_spent : (any none word : Bool) (a : ℕ) → by_tests any none word a ≡ BudgetSpent → (any ≡ true) × (none ≡ true)
+by_spent true true word a e = (refl, refl)
+by_spent true false true a e = absurd (cc)
+by_spent true false false a e = absurd (cc)
+by_spent false none word a e = absurd (cc)
+
+pub all_spent : (s : Schedule) → pick_of s ≡ BudgetSpent → (any_of s ≡ true) × ((s.dispatch.budget == 0) ≡ true)
+all_spent s e = by_spent (any_of s) (s.dispatch.budget == 0) (has_word s) (next_of s).current e
+
+by_word : (any none word : Bool) (a : ℕ) → by_tests any none word a ≡ Discard → (any ≡ true) × ((none ≡ false) × (word ≡ true))
+by_word true true word a e = absurd (cc)
+by_word true false true a e = (refl, (refl, refl))
+by_word true false false a e = absurd (cc)
+by_word false none word a e = absurd (cc)
+
+pub word_comes : (s : Schedule) → pick_of s ≡ Discard → (any_of s ≡ true) × (((s.dispatch.budget == 0) ≡ false) × (has_word s ≡ true))
+word_comes s e = by_word (any_of s) (s.dispatch.budget == 0) (has_word s) (next_of s).current e
+
+-- a process that is picked lives
+pub live_of : (flags : List Bool) (p : Pick) (n : ℕ) → p ≡ Step n → PicksLive flags p → lives flags n ≡ true
+live_of flags p n is live = subst (PicksLive flags) is live
 
 pub any_is : (m : Machine) (w : World) (b : Bool) → live_flags w.processes ≡ m.sched.flags → any_of m.sched ≡ b → any_lives w.processes ≡ b
 any_is m w b flags e = ap (λ (x : List Bool). list_any (λ (y : Bool). y) x) flags ∙ e
 
+-- a run that goes on, and the words of its dispatch
+pub not_over : (m : Machine) (device : ℕ) (block : ℕ → List ℕ) (s : Setting) (w : World) → StandsFor m device block s w → any_of m.sched ≡ true → (m.sched.dispatch.budget == 0) ≡ false → is_over w ≡ false
+not_over m device block s w stands any some = rw (any_is m w true stands.flags any, stands.dispatch, some) refl
+
+coming_is : (m : Machine) (device : ℕ) (block : ℕ → List ℕ) (s : Setting) (w : World) → StandsFor m device block s w → is_over w ≡ false → words_coming w ≡ words_ahead m.sched.flags m.sched.dispatch
+coming_is m device block s w stands runs =
+    ap (λ (b : Bool). if b then 0 else words_ahead (live_flags w.processes) w.dispatch) runs
+    ∙ (ap (λ (f : List Bool). words_ahead f w.dispatch) stands.flags ∙ ap (words_ahead m.sched.flags) stands.dispatch)
+
+none_of : (n : ℕ) → nat_lt 0 n ≡ false → n ≡ 0
+none_of n e = grind arith
+
+some_of : (n : ℕ) → nat_lt 0 n ≡ true → 0 < n
+some_of n e = grind arith
+
+pub no_word : (m : Machine) (device : ℕ) (block : ℕ → List ℕ) (s : Setting) (w : World) → StandsFor m device block s w → any_of m.sched ≡ true → (m.sched.dispatch.budget == 0) ≡ false → has_word m.sched ≡ false
+    → words_coming w ≡ 0
+no_word m device block s w stands any some none =
+    coming_is m device block s w stands (not_over m device block s w stands any some) ∙ none_of (words_ahead m.sched.flags m.sched.dispatch) none
+
+pub some_word : (m : Machine) (device : ℕ) (block : ℕ → List ℕ) (s : Setting) (w : World) → StandsFor m device block s w → any_of m.sched ≡ true → (m.sched.dispatch.budget == 0) ≡ false → has_word m.sched ≡ true
+    → 0 < words_coming w
+some_word m device block s w stands any some word =
+    subst (λ (n : ℕ). 0 < n) (sym (coming_is m device block s w stands (not_over m device block s w stands any some))) (some_of (words_ahead m.sched.flags m.sched.dispatch) word)
+
 module _ (m : Machine) (device : ℕ) (block : ℕ → List ℕ) (s : Setting) (w : World) (p : Process) (c d r q : Option (List ℕ))
-    (stands : StandsFor m device block s w) (any : any_of m.sched ≡ true) (some : (m.sched.dispatch.budget == 0) ≡ false) (at : process_at w.processes (next_of m.sched).current ≡ Some p) where
+    (stands : StandsFor m device block s w) (any : any_of m.sched ≡ true) (some : (m.sched.dispatch.budget == 0) ≡ false) (at : process_at w.processes (next_of m.sched).current ≡ Some p) (wordless : words_coming w ≡ 0) where
   abbrev pub made : Effect
   made = effect (before s w (next_of m.sched).current p)
 
@@ -113,7 +169,7 @@ module _ (m : Machine) (device : ℕ) (block : ℕ → List ℕ) (s : Setting) (
   behind = changed w (next_of m.sched) p made
 
   step_is : step s w ≡ behind
-  step_is = step_runs s w runs ∙ rw (next_is, at) refl
+  step_is = step_at_once s w runs wordless ∙ rw (next_is, at) refl
 
   console_of : console (step s w) ≡ console w ++ made.piece
   console_of = ap console step_is ∙ console_behind w (next_of m.sched) p made
@@ -187,31 +243,20 @@ module _ (m : Machine) (device : ℕ) (block : ℕ → List ℕ) (s : Setting) (
   put_is : (bytes : ℕ) → length made.piece ≡ bytes → bytes ≡ length (step s w).console - length w.console
   put_is bytes is = omega (arith, is, bytes_of)
 
-  module _ (a b x y : ℕ) where
+  module _ (a b x y : ℕ) (told now : Option (List ℕ)) where
     pub step_hands : (bytes lines : ℕ) → length made.piece ≡ bytes → length made.lines ≡ lines → Hands (counts a b x y 0) (puts_of bytes) lines
-        → Hands (counts a b x y (length w.lines)) (step_puts w (step s w)) (length (step s w).lines)
+        → Hands (told_counts a b x y (length w.lines) told now) (step_puts w (step s w)) (length (step s w).lines)
     step_hands bytes lines piece_is lines_is h = record {
       to_console = h.to_console ∙ ap (λ (n : ℕ). a + puts_of n) (put_is bytes piece_is);
       to_report = omega (arith, h.to_report, lines_is, lines_length);
     }
 
-    pub late_hands : (bytes lines : ℕ) → length made.piece ≡ bytes → length made.lines ≡ lines → HandsUpTo (counts a b x y 0) (puts_of bytes) 0 lines → FailedHands s w (counts a b x y (length w.lines))
-    late_hands bytes lines piece_is lines_is h = record {
-      in_step = λ on. record {
-        to_console = h.to_console ∙ ap (λ (n : ℕ). a + puts_of n) (put_is bytes piece_is);
-        at_least = omega (arith, h.at_least);
-        at_most = omega (arith, h.at_most, lines_is, lines_length);
-      };
-      at_end = λ over. let never : true ≡ false = sym over ∙ runs in absurd (cc);
-    }
+    adds : (step s w).lines ≡ w.lines ++ made.lines
+    adds = ap (λ (v : World). v.lines) step_is ∙ lines_behind w (next_of m.sched) p made
 
-    pub part_hands : HandsUpTo (counts a b x y 0) (puts_of (length made.piece)) 0 (length made.lines) → FailedHands s w (counts a b x y (length w.lines))
+    pub part_hands : FailsIn (length made.piece) made.lines a b told now x y → FailedHands s w (told_counts a b x y (length w.lines) told now)
     part_hands h = record {
-      in_step = λ on. record {
-        to_console = h.to_console ∙ ap (λ (n : ℕ). a + puts_of n) (put_is (length made.piece) refl);
-        at_least = omega (arith, h.at_least);
-        at_most = omega (arith, h.at_most, lines_length);
-      };
+      in_step = λ on. record { lines = made.lines; adds = adds; fails = subst (λ (n : ℕ). FailsIn n made.lines a b told now x y) (put_is (length made.piece) refl) h };
       at_end = λ over. let never : true ≡ false = sym over ∙ runs in absurd (cc);
     }
 
@@ -238,8 +283,10 @@ module _ {m : Machine} {device : ℕ} {block : ℕ → List ℕ} {s : Setting} {
   pub begins_here : {number : ℕ} {p : Process} {left : Option (List ℕ)} → process_at w.processes number ≡ Some p → left ≡ Some w.input → Begins m.space device block s w number p left
   begins_here at left = record { here = record { stands = stands.space; process = at }; input = left; known = stands.known }
 
-  pub turn_here : {number : ℕ} → (next_dispatch s w).current ≡ number → HasTurn m.space device block s w number
-  turn_here chosen = record { agrees = record { set = stands.set; spelled = stands.spells }; sound = stands.sound; turn = chosen }
+  pub turn_here : {number : ℕ} → pick_of m.sched ≡ Step number → (next_dispatch s w).current ≡ number → HasTurn m.space device block s w number
+  turn_here {number} pick chosen =
+      let is = picked m.sched number pick in
+      record { agrees = record { set = stands.set; spelled = stands.spells }; sound = stands.sound; turn = chosen; wordless = no_word m device block s w stands is.any is.some is.wordless }
 
 module _ (m : Machine) (device : ℕ) (block : ℕ → List ℕ) (s : Setting) (w : World) (number : ℕ) (c d r q : Option (List ℕ))
     (stands : StandsFor m device block s w) (pick : pick_of m.sched ≡ Step number) (live : lives m.sched.flags number ≡ true) where
@@ -258,9 +305,13 @@ module _ (m : Machine) (device : ℕ) (block : ℕ → List ℕ) (s : Setting) (
   here_is : process_at w.processes k ≡ Some here
   here_is = found_at.1
 
+  -- before which no word comes
+  pub none_comes : words_coming w ≡ 0
+  none_comes = no_word m device block s w stands is.any is.some is.wordless
+
   -- the next step is this process's
   current_is : (next_dispatch s w).current ≡ number
-  current_is = ap (λ (z : Dispatch). z.current) (next_is m device block s w here c d r q stands is.any is.some here_is) ∙ is.number
+  current_is = ap (λ (z : Dispatch). z.current) (next_is m device block s w here c d r q stands is.any is.some here_is none_comes) ∙ is.number
 
   -- what is said of the process of this number is so of it
   at_k : (P : ℕ → Process → Type 0) → ((p : Process) → process_at w.processes number ≡ Some p → P number p) → P k here
@@ -268,7 +319,7 @@ module _ (m : Machine) (device : ℕ) (block : ℕ → List ℕ) (s : Setting) (
 
   -- what follows of whichever process is next is so
   pub of_next : (X : Type 0) → (is_over w ≡ false → (next_dispatch s w).current ≡ number → (p : Process) → process_at w.processes number ≡ Some p → X) → X
-  of_next X did = at_k (λ z p. X) (did (runs m device block s w here c d r q stands is.any is.some here_is) current_is)
+  of_next X did = at_k (λ z p. X) (did (runs m device block s w here c d r q stands is.any is.some here_is none_comes) current_is)
 
   -- over what the device is behind it
   module _ (n : Machine) (count : ℕ) (holds : ℕ → List ℕ) where
@@ -282,7 +333,7 @@ module _ (m : Machine) (device : ℕ) (block : ℕ → List ℕ) (s : Setting) (
         → StepsInPart stands_now true s w j c d r q
     faulted i j same set did room spelt =
         let all = at_k (λ z p. ActsInPart w (effect (before s w z p)) p.cpu (parts_in n.space count holds) i j c d r q) (did current_is) in
-        steps_in_part m device block s w here c d r q stands is.any is.some here_is stands_now j (at_k (λ z p. Fits true s w) (room current_is))
+        steps_in_part m device block s w here c d r q stands is.any is.some here_is none_comes stands_now j (at_k (λ z p. Fits true s w) (room current_is))
         all.input (inl (same_space n m device count block holds s w stands same all.stands set (at_k (λ z p. AreSpelled n.space.store n.space.names w) (spelt current_is)))) all.to_console all.to_report all.in_order
 
     module _ (i : Option (List ℕ)) (left : Space) (ran : Ran) (counts : HasCounted m n left ran.tally) (set : IsSetTo (parts_in left count holds) s)
@@ -316,17 +367,17 @@ module _ (m : Machine) (device : ℕ) (block : ℕ → List ℕ) (s : Setting) (
 
       -- the machine stands for the world after the step
       now : stands_now (step s w)
-      now = stands_next m device block s w here c d r q stands is.any is.some here_is n count holds left ran.tally all.matches set
+      now = stands_next m device block s w here c d r q stands is.any is.some here_is none_comes n count holds left ran.tally all.matches set
           (at_k (λ z p. SpellsBehind (before s w z p) w p left.store left.names (Ok ran)) (spelt current_is) (next_of m.sched) refl)
           (ap (λ (z : Schedule). z.dispatch) sched) (ap (λ (z : Schedule). z.quantum) sched)
           (flags_next (is_live ran.state) (ap is_live all.state) ∙ sym (ap (λ (z : Schedule). z.flags) sched)) all.puts counts
 
       pub went : ran.whole ≡ true → StepsOn stands_now true s w i c d r q
-      went whole = steps_on m device block s w here c d r q stands is.any is.some here_is stands_now i fits all.input now all.to_console
+      went whole = steps_on m device block s w here c d r q stands is.any is.some here_is none_comes stands_now i fits all.input now all.to_console
           (subst (λ (z : Bool). TakesText z r q (lines_text e.lines)) whole all.to_report)
 
       pub late : ran.whole ≡ false → StepsInPart stands_now true s w i c d r q
-      late part = steps_in_part m device block s w here c d r q stands is.any is.some here_is stands_now i fits all.input (inr now) (gains_some _ c d all.to_console)
+      late part = steps_in_part m device block s w here c d r q stands is.any is.some here_is none_comes stands_now i fits all.input (inr now) (gains_some _ c d all.to_console)
           (subst (λ (z : Bool). TakesText z r q (lines_text e.lines)) part all.to_report) (inr all.to_console)
 
     -- no step is done: the machine stands for the world before it, and there is a cause in that world
@@ -334,7 +385,7 @@ module _ (m : Machine) (device : ℕ) (block : ℕ → List ℕ) (s : Setting) (
         → Stays w (parts_in n.space count holds) i j c d r s_of → AreSpelled n.space.store n.space.names w → GainsSome s_of q (λ front. IsPrefix front (stop_line why)) → (put ≡ true → Gains s_of q (stop_line why))
         → IsStopped stands_now true device s w why put j c d r q
     halts why put i j s_of cause fit same left set all spells front whole = record {
-      runs = runs m device block s w here c d r q stands is.any is.some here_is;
+      runs = runs m device block s w here c d r q stands is.any is.some here_is none_comes;
       cause = cause;
       fits = fit;
       stands = same_space n m device count block holds s w stands same all.stands set spells;
@@ -347,11 +398,11 @@ module _ (m : Machine) (device : ℕ) (block : ℕ → List ℕ) (s : Setting) (
     -- at an input fault the next step is one that asks the input
     reads : AsksInput (before s w k here) → IsReadNext s w
     reads asks =
-        let next = next_is m device block s w here c d r q stands is.any is.some here_is in
+        let next = next_is m device block s w here c d r q stands is.any is.some here_is none_comes in
         record {
           process = here;
           there = ap (λ (z : Dispatch). process_at w.processes z.current) next ∙ here_is;
-          reads = subst (λ (z : Dispatch). AsksInput (before s w z.current here)) (sym next) asks;
+          reads = subst (λ (v : World). AsksInput (before s v (next_dispatch s w).current here)) (sym (ready_at_once w none_comes)) (subst (λ (z : Dispatch). AsksInput (before s w z.current here)) (sym next) asks);
         }
 
     -- whatever stop a step answers
@@ -362,34 +413,43 @@ module _ (m : Machine) (device : ℕ) (block : ℕ → List ℕ) (s : Setting) (
         → GainsSome s_of q (λ front. IsPrefix front (stop_line why)) → (put ≡ true → Gains s_of q (stop_line why)) → Turns stands_now true device s w put j c d r q (turn_of why)
     stopped_by Input put i j s_of same left set did says spelt front whole =
         let all = at_k (λ z p. ActsFault (before s w z p) w (parts_in n.space count holds) i j c d r s_of (Stopped Input)) (did current_is) in
-        halts Input put i j s_of (reads all.cause) (at_k (λ z p. FaultSays device s w (Stopped Input)) (says current_is)) same left set all.still (at_k (λ z p. AreSpelled n.space.store n.space.names w) (spelt current_is)) front whole
-    stopped_by NoRoom put i j s_of same left set did says spelt front whole =
-        halts NoRoom put i j s_of (at_k (λ z p. FaultSays device s w (Stopped NoRoom)) (says current_is)) tt same left set
-        (at_k (λ z p. ActsFault (before s w z p) w (parts_in n.space count holds) i j c d r s_of (Stopped NoRoom)) (did current_is)) (at_k (λ z p. AreSpelled n.space.store n.space.names w) (spelt current_is)) front whole
-    stopped_by SwapFull put i j s_of same left set did says spelt front whole =
-        halts SwapFull put i j s_of (at_k (λ z p. FaultSays device s w (Stopped SwapFull)) (says current_is)) tt same left set
-        (at_k (λ z p. ActsFault (before s w z p) w (parts_in n.space count holds) i j c d r s_of (Stopped SwapFull)) (did current_is)) (at_k (λ z p. AreSpelled n.space.store n.space.names w) (spelt current_is)) front whole
-    stopped_by SwapFault put i j s_of same left set did says spelt front whole =
-        halts SwapFault put i j s_of tt tt same left set
-        (at_k (λ z p. ActsFault (before s w z p) w (parts_in n.space count holds) i j c d r s_of (Stopped SwapFault)) (did current_is)) (at_k (λ z p. AreSpelled n.space.store n.space.names w) (spelt current_is)) front whole
+        (none_comes, halts Input put i j s_of (reads all.cause) (at_k (λ z p. FaultSays device s w (Stopped Input)) (says current_is)) same left set all.still (at_k (λ z p. AreSpelled n.space.store n.space.names w) (spelt current_is)) front whole)
+    stopped_by NoRoom put i j s_of same left set did says spelt front whole = (
+      none_comes,
+      halts NoRoom put i j s_of (at_k (λ z p. FaultSays device s w (Stopped NoRoom)) (says current_is)) tt same left set
+          (at_k (λ z p. ActsFault (before s w z p) w (parts_in n.space count holds) i j c d r s_of (Stopped NoRoom)) (did current_is)) (at_k (λ z p. AreSpelled n.space.store n.space.names w) (spelt current_is)) front whole,
+    )
+    stopped_by SwapFull put i j s_of same left set did says spelt front whole = (
+      none_comes,
+      halts SwapFull put i j s_of (at_k (λ z p. FaultSays device s w (Stopped SwapFull)) (says current_is)) tt same left set
+          (at_k (λ z p. ActsFault (before s w z p) w (parts_in n.space count holds) i j c d r s_of (Stopped SwapFull)) (did current_is)) (at_k (λ z p. AreSpelled n.space.store n.space.names w) (spelt current_is)) front whole,
+    )
+    stopped_by SwapFault put i j s_of same left set did says spelt front whole = (
+      none_comes,
+      halts SwapFault put i j s_of tt tt same left set
+          (at_k (λ z p. ActsFault (before s w z p) w (parts_in n.space count holds) i j c d r s_of (Stopped SwapFault)) (did current_is)) (at_k (λ z p. AreSpelled n.space.store n.space.names w) (spelt current_is)) front whole,
+    )
 
   -- The puts of a step that is done, whole or not, and of one in which a sink failed.
-  module _ (a b x y : ℕ) where
-    pub failed_puts : ((p : Process) → process_at w.processes number ≡ Some p → let e : Effect = effect (before s w number p) in HandsUpTo (counts a b x y 0) (puts_of (length e.piece)) 0 (length e.lines))
-        → FailedHands s w (counts a b x y (length w.lines))
+  module _ (a b x y : ℕ) (told now : Option (List ℕ)) where
+    pub failed_puts : ((next_dispatch s w).current ≡ number → (p : Process) → process_at w.processes number ≡ Some p
+        → FaultPart (effect (before s w number p)) (told_counts a b x y 0 told now) Sink) → FailedHands s w (told_counts a b x y (length w.lines) told now)
     failed_puts did =
-        part_hands m device block s w here c d r q stands is.any is.some here_is a b x y
-        (at_k (λ z p. let e : Effect = effect (before s w z p) in HandsUpTo (counts a b x y 0) (puts_of (length e.piece)) 0 (length e.lines)) did)
+        part_hands m device block s w here c d r q stands is.any is.some here_is none_comes a b x y told now
+        (at_k (λ z p. FaultPart (effect (before s w z p)) (told_counts a b x y 0 told now) Sink) (did current_is))
+
+    pub late_puts : ((next_dispatch s w).current ≡ number → (p : Process) → process_at w.processes number ≡ Some p
+        → LatePart false (effect (before s w number p)) (told_counts a b x y 0 told now)) → FailedHands s w (told_counts a b x y (length w.lines) told now)
+    late_puts did =
+        let late = at_k (λ z p. LatePart false (effect (before s w z p)) (told_counts a b x y 0 told now)) (did current_is) in
+        part_hands m device block s w here c d r q stands is.any is.some here_is none_comes a b x y told now (AtLine late.0 late.1)
 
     module _ (tally : Tally) (did : (next_dispatch s w).current ≡ number → (p : Process) → process_at w.processes number ≡ Some p → IsTally (effect (before s w number p)) tally) where
       so : IsTally (effect (before s w k here)) tally
       so = at_k (λ z p. IsTally (effect (before s w z p)) tally) (did current_is)
 
-      pub went_puts : Hands (counts a b x y 0) (puts_of tally.bytes) tally.lines → Hands (counts a b x y (length w.lines)) (step_puts w (step s w)) (length (step s w).lines)
-      went_puts hands = step_hands m device block s w here c d r q stands is.any is.some here_is a b x y tally.bytes tally.lines so.bytes so.lines hands
-
-      pub late_puts : HandsUpTo (counts a b x y 0) (puts_of tally.bytes) 0 tally.lines → FailedHands s w (counts a b x y (length w.lines))
-      late_puts hands = late_hands m device block s w here c d r q stands is.any is.some here_is a b x y tally.bytes tally.lines so.bytes so.lines hands
+      pub went_puts : Hands (counts a b x y 0) (puts_of tally.bytes) tally.lines → Hands (told_counts a b x y (length w.lines) told now) (step_puts w (step s w)) (length (step s w).lines)
+      went_puts hands = step_hands m device block s w here c d r q stands is.any is.some here_is none_comes a b x y told now tally.bytes tally.lines so.bytes so.lines hands
 
 -- what caused a step to stop
 pub caused_stop : (sink other input full device : Type 0) (f : Fault) (why : Stop) → f ≡ Stopped why → CauseOf sink input full device f → Caused other input (Unit {0}) (turn_of why)
@@ -410,6 +470,7 @@ failed_stop f SwapFault is h = is
 
 pub caused_device : (sink input device : Type 0) (t : Turn) → Caused sink input (Unit {0}) t → (t ≡ turn.SwapFault → device) → Caused sink input device t
 caused_device sink input device turn.Ran h failed = h
+caused_device sink input device turn.Discarded h failed = h
 caused_device sink input device turn.AllEnded h failed = h
 caused_device sink input device turn.BudgetSpent h failed = h
 caused_device sink input device turn.InputFault h failed = h
@@ -424,7 +485,7 @@ line_of_stop put fault NoRoom h = h
 line_of_stop put fault SwapFull h = h
 line_of_stop put fault SwapFault h = h
 
-pub left_at_stop : (P : Type 0) (why : Stop) → OnRan (turn_of why) P
+pub left_at_stop : (P : Type 0) (why : Stop) → OnGoing (turn_of why) P
 left_at_stop P Input = tt
 left_at_stop P NoRoom = tt
 left_at_stop P SwapFull = tt
@@ -448,7 +509,7 @@ module _ (m n : Machine) (device : ℕ) (block : ℕ → List ℕ) (s : Setting)
   closed_in_part text over last g = record { over = over; stands = stays; input = left; to_console = refl; to_report = rw last (continues_in_part text (lines_text w.lines) r q g) }
 
   none_lives : pick_of m.sched ≡ AllEnded → any_lives w.processes ≡ false
-  none_lives pick = any_is m w false stands.flags (by_ended (any_of m.sched) (m.sched.dispatch.budget == 0) (next_of m.sched).current pick)
+  none_lives pick = any_is m w false stands.flags (none_left m.sched pick)
 
   pub closes_ended : pick_of m.sched ≡ AllEnded → Gains r q (codes "all ended" ++ 10 ∷ []) → IsClosed stands_still w false i c c r q
   closes_ended pick g = closed false _ (none_lives pick) (rw (none_lives pick) refl) (rw (none_lives pick) refl) g
@@ -458,7 +519,7 @@ module _ (m n : Machine) (device : ℕ) (block : ℕ → List ℕ) (s : Setting)
 
   some_lives : pick_of m.sched ≡ BudgetSpent → (any_lives w.processes ≡ true) × ((w.dispatch.budget == 0) ≡ true)
   some_lives pick =
-      let both = by_spent (any_of m.sched) (m.sched.dispatch.budget == 0) (next_of m.sched).current pick in
+      let both = all_spent m.sched pick in
       (any_is m w true stands.flags both.0, ap (λ (d : Dispatch). d.budget == 0) stands.dispatch ∙ both.1)
 
   pub closes_spent : pick_of m.sched ≡ BudgetSpent → Gains r q (codes "budget spent" ++ 10 ∷ []) → IsClosed stands_still w true i c c r q
@@ -474,17 +535,19 @@ stop_moves : (f g : World → Type 0) → ((w : World) → f w → g w)
 stop_moves f g h swaps blocks s w put i c d r q why x = record { runs = x.runs; cause = x.cause; fits = x.fits; stands = h w x.stands; input = x.input; to_console = x.to_console; to_report = x.to_report; whole = x.whole }
 
 turns_move : (f g : World → Type 0) → ((w : World) → f w → g w) → (swaps : Bool) (blocks : ℕ) (s : Setting) (w : World) (put : Bool) (i c d r q : Option (List ℕ)) (t : Turn) → Turns f swaps blocks s w put i c d r q t → Turns g swaps blocks s w put i c d r q t
-turns_move f g h swaps blocks s w put i c d r q turn.Ran x = record { runs = x.runs; room = x.room; input = x.input; stands = h (step s w) x.stands; to_console = x.to_console; to_report = x.to_report }
+turns_move f g h swaps blocks s w put i c d r q turn.Ran x = (x.0, record { runs = x.1.runs; room = x.1.room; input = x.1.input; stands = h (step s w) x.1.stands; to_console = x.1.to_console; to_report = x.1.to_report })
+turns_move f g h swaps blocks s w put i c d r q turn.Discarded x = record { next = x.next; input = x.input; stands = h (with_word w) x.stands; to_console = x.to_console; to_report = x.to_report }
 turns_move f g h swaps blocks s w put i c d r q turn.AllEnded x = record { over = x.over; by = x.by; stands = h w x.stands; input = x.input; to_console = x.to_console; to_report = x.to_report }
 turns_move f g h swaps blocks s w put i c d r q turn.BudgetSpent x = record { over = x.over; by = x.by; stands = h w x.stands; input = x.input; to_console = x.to_console; to_report = x.to_report }
-turns_move f g h swaps blocks s w put i c d r q turn.InputFault x = stop_moves f g h swaps blocks s w put i c d r q Input x
-turns_move f g h swaps blocks s w put i c d r q turn.NoRoom x = stop_moves f g h swaps blocks s w put i c d r q NoRoom x
-turns_move f g h swaps blocks s w put i c d r q turn.SwapFull x = stop_moves f g h swaps blocks s w put i c d r q SwapFull x
-turns_move f g h swaps blocks s w put i c d r q turn.SwapFault x = stop_moves f g h swaps blocks s w put i c d r q SwapFault x
-turns_move f g h swaps blocks s w put i c d r q turn.SinkFault (inl x) = inl (record { runs = x.runs; room = x.room; input = x.input; stands = either x.stands; to_console = x.to_console; to_report = x.to_report; in_order = x.in_order }) where
-  either : f w ⊎ f (step s w) → g w ⊎ g (step s w)
-  either (inl y) = inl (h w y)
-  either (inr y) = inr (h (step s w) y)
+turns_move f g h swaps blocks s w put i c d r q turn.InputFault x = (x.0, stop_moves f g h swaps blocks s w put i c d r q Input x.1)
+turns_move f g h swaps blocks s w put i c d r q turn.NoRoom x = (x.0, stop_moves f g h swaps blocks s w put i c d r q NoRoom x.1)
+turns_move f g h swaps blocks s w put i c d r q turn.SwapFull x = (x.0, stop_moves f g h swaps blocks s w put i c d r q SwapFull x.1)
+turns_move f g h swaps blocks s w put i c d r q turn.SwapFault x = (x.0, stop_moves f g h swaps blocks s w put i c d r q SwapFault x.1)
+turns_move f g h swaps blocks s w put i c d r q turn.SinkFault (inl x) =
+    inl (x.0, record { runs = x.1.runs; room = x.1.room; input = x.1.input; stands = either x.1.stands; to_console = x.1.to_console; to_report = x.1.to_report; in_order = x.1.in_order }) where
+      either : f w ⊎ f (step s w) → g w ⊎ g (step s w)
+      either (inl y) = inl (h w y)
+      either (inr y) = inr (h (step s w) y)
 turns_move f g h swaps blocks s w put i c d r q turn.SinkFault (inr x) = inr (record { over = x.over; stands = h w x.stands; input = x.input; to_console = x.to_console; to_report = x.to_report })
 
 -- the same, for the answer as it is given

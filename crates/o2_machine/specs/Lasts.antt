@@ -5,12 +5,21 @@ use Rattle.o2_run.specs.declared.steps.Turn.TheVariants as turn
 use Rattle.o2_machine.specs.declared.last.Last.{Last}
 use Rattle.o2_run.specs.Faults.{turn_of as stop_turn}
 use Rattle.o2_machine.specs.declared.last.Last.TheVariants.{AllEnded, BudgetSpent, SinkFault, Stopped}
+use Rattle.o2_sched.specs.declared.sched.Pick.{Pick}
+use Rattle.o2_sched.specs.declared.sched.Pick.TheVariants as pick
 
 abbrev pub turn_of : Last → Turn
 turn_of AllEnded = turn.AllEnded
 turn_of BudgetSpent = turn.BudgetSpent
 turn_of SinkFault = turn.SinkFault
 turn_of (Stopped why put) = stop_turn why
+
+-- a word of the script comes next
+abbrev pub is_word : Pick → Bool
+is_word pick.Discard = true
+is_word (pick.Step n) = false
+is_word pick.AllEnded = false
+is_word pick.BudgetSpent = false
 
 -- the answer of a turn: a step where the machine goes on
 abbrev pub answer_of : Option Last → Turn

@@ -1,6 +1,6 @@
 // Steps of a turn that are done at once.
-ghost use Rattle.std.specs.Prelude.{◌≡◌, ◌<◌, ◌+◌, ℕ, List, true};
-ghost use Rattle.o2_sched.specs.Schedule.{ahead_of, next_of};
+ghost use Rattle.std.specs.Prelude.{◌≡◌, ◌<◌, ◌≤◌, ◌+◌, ℕ, List, true};
+ghost use Rattle.o2_sched.specs.Schedule.{ahead_of, next_of, work_left};
 ghost use Rattle.o2_run.specs.Slice.{OverSome, Slices};
 ghost use Rattle.o2_world.specs.World.{Setting, World};
 ghost use Rattle.o2_machine.specs.GoesOver.{GoesOver};
@@ -21,7 +21,7 @@ impl Machine {
             → StandsFor self.old device block s w → Slices (StandsFor self.new device block s) true s w result }
         ensures device { (blocks : ℕ) → GoesOver self.old.space self.old.sched blocks
             → GoesOver self.new.space self.new.sched blocks }
-        ensures left { self.new.sched.dispatch.budget + result ≡ self.old.sched.dispatch.budget }
+        ensures left { work_left self.new.sched + result ≤ work_left self.old.sched }
         ensures last { self.new.last ≡ self.old.last }
         ensures images { self.new.space.images ≡ self.old.space.images }
         ensures idle { NoneTaken self.old.space.store.swap → NoneTaken self.new.space.store.swap }

@@ -4,18 +4,20 @@ ghost use Rattle.o2_outer.specs.Texts.{Rose};
 ghost use Rattle.o2_outer.specs.Inputs.{GoesOn, IsSeenAs, left_as};
 ghost use Rattle.o2_conf.specs.Dispatch.{lives};
 ghost use Rattle.o2_world.specs.World.{World, Setting};
-ghost use Rattle.o2_sched.specs.Schedule.{pick_of, is_step};
-ghost use Rattle.o2_run.specs.Turn.{Turns, LineIs, Caused, OnRan};
-ghost use Rattle.o2_machine.specs.Lasts.{answer_of, put_of};
+ghost use Rattle.o2_sched.specs.Schedule.{PicksLive, is_step, pick_of, work_left};
+ghost use Rattle.o2_sched.specs.declared.sched.Pick.TheVariants.{Discard};
+ghost use Rattle.o2_run.specs.Slice.{OverSome};
+ghost use Rattle.o2_run.specs.Turn.{Turns, LineIs, Caused, OnGoing};
+ghost use Rattle.o2_machine.specs.Lasts.{answer_of, is_word, put_of};
 ghost use Rattle.o2_machine.specs.Steppeds.{stepped_sched};
 ghost use Rattle.o2_world.specs.World.{is_live as lives_on};
 ghost use Rattle.o2_machine.specs.GoesOver.{GoesOver};
 ghost use Rattle.o2_machine.specs.StandsFor.{StandsFor};
-ghost use Rattle.o2_run.specs.Pieces.{counts, TurnHands};
+ghost use Rattle.o2_run.specs.Pieces.{told_counts, TurnHands};
 ghost use Rattle.o2_store.specs.Frames.{KeepsDevice};
 ghost use Rattle.o2_store.specs.Idle.{IsIdle, NoneTaken};
 ghost use Rattle.o2_run.specs.Room.{AllFits};
-ghost use Rattle.o2_world.specs.Run.{is_over};
+ghost use Rattle.o2_world.specs.Run.{is_over, with_word, words_coming};
 
 use crate::last::{Last, answer};
 use crate::machine::Machine;
@@ -25,7 +27,36 @@ use o2_sched::Pick;
 use o2_space::is_live;
 use o2_stepping::Ran;
 
+/// Whether a word of the script comes next.
+fn is_word(pick: Pick) -> bool
+    ensures { result ≡ is_word pick }
+{
+    match pick {
+        Pick::Discard => true,
+        Pick::Step(_) => false,
+        Pick::AllEnded => false,
+        Pick::BudgetSpent => false,
+    }
+}
+
 impl Machine {
+    /// The word `discard` that comes before the next step is done. Nothing is put, and no step is taken.
+    fn discard(&mut self)
+        requires pick { pick_of self.old.sched ≡ Discard }
+        requires device { OverSome (GoesOver self.old.space self.old.sched) }
+        ensures stands { (device : ℕ) (block : ℕ → List ℕ) (s : Setting) (w : World) → StandsFor self.old device block s w
+            → (0 < words_coming w) × StandsFor self.new device block s (with_word w) }
+        ensures device { (blocks : ℕ) → GoesOver self.old.space self.old.sched blocks
+            → GoesOver self.new.space self.new.sched blocks }
+        ensures left { work_left self.new.sched < work_left self.old.sched }
+        ensures last { self.new.last ≡ self.old.last }
+        ensures images { self.new.space.images ≡ self.old.space.images }
+        ensures idle { NoneTaken self.old.space.store.swap → NoneTaken self.new.space.store.swap }
+    {
+        self.sched.next();
+        self.space.discard_all();
+    }
+
     /// A step of this process is done, and counted.
     fn stepped(&mut self, pid: u16, ran: &Ran)
         requires pick { is_step (pick_of self.old.sched) ≡ true }
@@ -47,15 +78,19 @@ impl Machine {
         }
     }
 
-    /// One step, or the last line, or a stop line.
+    /// What was picked: one step, or the last line, or a stop line.
     #[tactic(auto, using(o2_outer::proofs::Inputs::goes_same))]
     fn advance<I: Source, C: Sink, R: Sink, S: SwapDevice>(
         &mut self,
+        pick: Pick,
         input: &mut I,
         console: &mut C,
         report: &mut R,
         swap: &mut S,
     ) -> Option<Last>
+        requires pick { pick ≡ pick_of self.old.sched }
+        requires live { PicksLive self.old.sched.flags pick }
+        requires wordless { is_word pick ≡ false }
         requires device { GoesOver self.old.space self.old.sched (S.blocks swap.old) }
         ensures turns { IsTrue (S.told swap.new) → (text : Option (List ℕ)) → IsSeenAs text (I.past input.new) → (s : Setting) (w : World)
             → StandsFor self.old (S.blocks swap.old) (S.block swap.old) s w
@@ -80,15 +115,17 @@ impl Machine {
             (Rose (C.faults console.old) (C.faults console.new) ⊎ Rose (R.faults report.old) (R.faults report.new))
             (Rose (I.faults input.old) (I.faults input.new)) (Unit {0}) (answer_of result) }
         ensures line { LineIs (put_of result) (Rose (R.faults report.old) (R.faults report.new)) (answer_of result) }
-        ensures left { OnRan (answer_of result) (self.new.sched.dispatch.budget < self.old.sched.dispatch.budget) }
-        // Each line is one put, and so is the piece for the console, where it has bytes.
+        ensures left { OnGoing (answer_of result) (work_left self.new.sched < work_left self.old.sched) }
+        // Each line is one put, and so is the piece for the console, where it has bytes. Where a line failed, those in front of it were
+        // put whole.
         ensures puts { IsTrue (S.told swap.new) → (text : Option (List ℕ)) → IsSeenAs text (I.past input.new) → (s : Setting) (w : World)
             → StandsFor self.old (S.blocks swap.old) (S.block swap.old) s w
             → left_as text (I.left input.old) (I.past input.old) ≡ Some w.input
-            → TurnHands s w (counts (C.puts console.old) (C.puts console.new)
-            (R.puts report.old) (R.puts report.new) (length w.lines)) (answer_of result) }
+            → TurnHands s w (told_counts (C.puts console.old) (C.puts console.new)
+            (R.puts report.old) (R.puts report.new) (length w.lines) (R.taken report.old) (R.taken report.new)) (answer_of result) }
     {
-        match self.sched.next() {
+        match pick {
+            Pick::Discard => unreachable!(),
             Pick::AllEnded => match report.put(b"all ended\n") {
                 Put::Done => Some(Last::AllEnded),
                 Put::Failed => Some(Last::SinkFault),
@@ -116,6 +153,7 @@ impl Machine {
 impl Steps for Machine {
     ghost use Rattle.o2_image.specs.ImageList.{ImageList};
     ghost use Rattle.o2_machine.specs.Lasts.{stopped_of, put_of, machine_swaps};
+    ghost use Rattle.o2_sched.specs.Schedule.{work_left};
     ghost use Rattle.o2_machine.specs.GoesOver.{GoesOver};
     ghost use Rattle.o2_machine.specs.StandsFor.{StandsFor};
     ghost use Rattle.o2_store.specs.Idle.{NoneTaken};
@@ -130,7 +168,7 @@ impl Steps for Machine {
 
     ghost swaps = { machine_swaps };
 
-    ghost left = { λ m. m.sched.dispatch.budget };
+    ghost left = { λ m. work_left m.sched };
 
     ghost stopped = { λ m. stopped_of m.last };
 
@@ -149,7 +187,12 @@ impl Steps for Machine {
         match self.last {
             Some(_) => answer(self.last),
             None => {
-                let last = self.advance(input, console, report, swap);
+                let pick = self.sched.coming();
+                if is_word(pick) {
+                    self.discard();
+                    return Turn::Discarded;
+                }
+                let last = self.advance(pick, input, console, report, swap);
                 self.last = last;
                 answer(last)
             }

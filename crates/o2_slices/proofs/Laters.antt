@@ -20,9 +20,10 @@ use Rattle.o2_world.specs.Changes.{told_of, used}
 use Rattle.o2_world.specs.Effect.{effect}
 use Rattle.o2_world.specs.Holders.{kept, process_at, with_process}
 use Rattle.o2_world.specs.Known.{known_of}
-use Rattle.o2_world.specs.Run.{after, any_lives, before, is_over, live_flags, next_dispatch, plainly, process_after, acted, step}
+use Rattle.o2_world.specs.Run.{after, any_lives, before, is_over, live_flags, next_dispatch, plainly, process_after, acted, step, words_coming}
 use Rattle.o2_world.specs.Views.{with_bytes}
-use Rattle.o2_world.proofs.Budget.{budget_after, not_over, step_runs}
+use Rattle.o2_world.proofs.Budget.{budget_after, not_over}
+use Rattle.o2_world.proofs.Words.{none_within, step_at_once}
 use Rattle.o2_world.proofs.Flags.{flags_after}
 use Rattle.o2_world.proofs.Quiet.{changed_plain}
 use Rattle.o2_run.specs.Room.{Fits}
@@ -66,6 +67,7 @@ record IsNextAt (p : Parts) (s : Setting) (w : World) : Type 0 where
 -- and for the one k steps later, whose next step would be of the same turn where that has steps left
 record IsLaterAt (p : Parts) (s : Setting) (w : World) (k : ℕ) : Type 0 where
   at : IsAt p s (after s w k)
+  wordless : (j : ℕ) → j < k → words_coming (after s w j) ≡ 0
   silent : AreSilent true s w k
   texts : (after s w k).texts ≡ w.texts
   flags : live_flags (after s w k).processes ≡ live_flags w.processes
@@ -124,7 +126,7 @@ module _ (pid : ℕ) (images : ImageList) (device : ℕ) (block : ℕ → List �
 
   -- One step.
 
-  module _ (a b : Seat) (move : IsStep pid a b) (w : World) (here : IsAt (parts_at a) s w) (runs : is_over w ≡ false) (chosen : (next_dispatch s w).current ≡ pid) where
+  module _ (a b : Seat) (move : IsStep pid a b) (w : World) (here : IsAt (parts_at a) s w) (runs : is_over w ≡ false) (wordless : words_coming w ≡ 0) (chosen : (next_dispatch s w).current ≡ pid) where
     abbrev d : Dispatch
     d = next_dispatch s w
 
@@ -216,7 +218,7 @@ module _ (pid : ℕ) (images : ImageList) (device : ℕ) (block : ℕ → List �
         (subst (λ (n : ℕ). StandsIn (parts_at b) (with_process w.processes n worked) (with_bytes w.names e.bytes) w.next_name w.reserved) (sym chosen) moved)
 
     step_is : step s w ≡ plainly w d x e
-    step_is = step_runs s w runs ∙ (ap (acted s w d) at_current ∙ changed_plain w d x e done.changes)
+    step_is = step_at_once s w runs wordless ∙ (ap (acted s w d) at_current ∙ changed_plain w d x e done.changes)
 
     stands_then : Stands (parts_at b) (step s w)
     unfolding plainly
@@ -246,7 +248,7 @@ module _ (pid : ℕ) (images : ImageList) (device : ℕ) (block : ℕ → List �
 
     room : Fits true s w
     room =
-        fits (parts_at a) s w x (record { lawful = here.lawful; set = here.set; stands = here.stands; chosen = at_current }) b.maps b.cpu shape.holds done.cpu done.changes
+        fits (parts_at a) s w x (record { lawful = here.lawful; set = here.set; stands = here.stands; chosen = at_current; wordless = wordless }) b.maps b.cpu shape.holds done.cpu done.changes
         (subst (λ (l : List ℕ). room_in a.shelf l ≤ a.shelf.places.size) names_are fits_there)
 
     lives_here : lives (live_flags w.processes) d.current ≡ true
@@ -317,16 +319,24 @@ module _ (pid : ℕ) (images : ImageList) (device : ℕ) (block : ℕ → List �
 
   -- Some steps.
 
-  module _ (w : World) (runs : is_over w ≡ false) (chosen : (next_dispatch s w).current ≡ pid) where
+  module _ (w : World) (runs : is_over w ≡ false) (wordless : words_coming w ≡ 0) (chosen : (next_dispatch s w).current ≡ pid) where
     all_lives : list_any (λ (b : Bool). b) (live_flags w.processes) ≡ true
     all_lives = (not_over (any_lives w.processes) w.dispatch.budget runs).0
 
     lives_now : lives (live_flags w.processes) (next_dispatch s w).current ≡ true
     lives_now = chosen_lives s.quantum (live_flags w.processes) w.dispatch all_lives
 
+    -- no word comes within a turn
+    wordless_at : (k : ℕ) (p : Parts) → IsLaterAt p s w k → suc k ≤ (next_dispatch s w).left → words_coming (after s w k) ≡ 0
+    wordless_at zero p h turn = wordless
+    wordless_at (suc k) p h turn =
+        none_within (after s w (suc k)) (counted_by (suc k) (next_dispatch s w)) (h.dispatch (omega arith)) (omega (arith, turn))
+        (ap (λ (f : List Bool). lives f (next_dispatch s w).current) h.flags ∙ lives_now)
+
     step_later : (k : ℕ) (m b : Seat) → IsLaterAt (parts_at m) s w k → IsStep pid m b → suc k ≤ (next_dispatch s w).left → suc k ≤ w.dispatch.budget → IsLaterAt (parts_at b) s w (suc k)
     step_later k m b h move turn budget = record {
       at = one.at;
+      wordless = λ j below. (let P : ℕ → Type 0 = λ i. words_coming (after s w i) ≡ 0 in below_more P k h.wordless (wordless_at k (parts_at m) h turn) j (omega (arith, below)));
       silent = λ j below. (let P : ℕ → Type 0 = λ i. IsSilent true s (after s w i) in below_more P k h.silent one.silent j (omega (arith, below)));
       texts = one.texts ∙ h.texts;
       flags = flags_now;
@@ -349,7 +359,7 @@ module _ (pid : ℕ) (images : ImageList) (device : ℕ) (block : ℕ → List �
       chosen_then = ap (λ (z : Dispatch). z.current) next_then ∙ chosen
 
       one : IsNextAt (parts_at b) s (after s w k)
-      one = one_step m b move (after s w k) h.at runs_then chosen_then
+      one = one_step m b move (after s w k) h.at runs_then (wordless_at k (parts_at m) h turn) chosen_then
 
       flags_now : live_flags (after s w (suc k)).processes ≡ live_flags w.processes
       flags_now = one.flags ∙ h.flags
@@ -360,6 +370,7 @@ module _ (pid : ℕ) (images : ImageList) (device : ℕ) (block : ℕ → List �
     steps_later : (k : ℕ) (a b : Seat) → AreSteps pid k a b → IsAt (parts_at a) s w → k ≤ (next_dispatch s w).left → k ≤ w.dispatch.budget → IsLaterAt (parts_at b) s w k
     steps_later zero a b same here turn budget = record {
       at = subst (λ (z : Seat). IsAt (parts_at z) s w) same here;
+      wordless = λ j below. absurd (omega (arith, below));
       silent = λ j below. absurd (omega (arith, below));
       texts = refl;
       flags = refl;
@@ -370,7 +381,7 @@ module _ (pid : ℕ) (images : ImageList) (device : ℕ) (block : ℕ → List �
         step_later k steps.0 b (steps_later k a steps.0 steps.1.0 here (omega (arith, turn)) (omega (arith, budget))) steps.1.1 turn budget
 
     pub sliced_later : (k : ℕ) (a b : Seat) → AreSliced pid k a b → IsAt (parts_at a) s w → k ≤ (next_dispatch s w).left → k ≤ w.dispatch.budget → StandsLater (parts_at b) s w k
-    sliced_later k a b sliced here turn budget = record { stands = (last_at sliced.behind).stands; silent = h.silent; texts = h.texts; flags = h.flags; dispatch = h.dispatch } where
+    sliced_later k a b sliced here turn budget = record { stands = (last_at sliced.behind).stands; wordless = h.wordless; silent = h.silent; texts = h.texts; flags = h.flags; dispatch = h.dispatch } where
       h : IsLaterAt (parts_at sliced.last) s w k
       h = steps_later k a sliced.last sliced.steps here turn budget
 

@@ -19,7 +19,7 @@ use Rattle.o2_segbus.specs.declared.seg_bus.SegBus.{SegBus}
 use Rattle.o2_segbus.specs.Bus.{bus_view, registers_of}
 use Rattle.o2_segbus.specs.Calls.{LeavesBus, view_of}
 use Rattle.o2_segbus.specs.Frames.{CanStep}
-use Rattle.o2_segbus.specs.Seen.{bytes_in, hold_in, present_in, seen, seen_with, size_in}
+use Rattle.o2_segbus.specs.Seen.{bytes_in, gone_in, hold_in, present_in, seen, seen_with, size_in}
 use Rattle.o2_segbus.proofs.Attempts.{still}
 use Rattle.o2_segbus.proofs.Called.{held_data, leaves}
 use Rattle.o2_stands.specs.Stands.{AreLawful}
@@ -104,7 +104,7 @@ by_holds s c held = record {
   gate = built_gates;
   size = size_in s;
   present = present_in s;
-  discarded = λ n. false;
+  discarded = gone_in s;
   bytes = bytes_in s;
   registers = bound_registers held c;
   rest = no_rest;

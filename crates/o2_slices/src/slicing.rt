@@ -4,7 +4,7 @@ ghost use Rattle.o2_regions.specs.Lives.{lives};
 ghost use Rattle.o2_run.specs.Slice.{OverSome};
 ghost use Rattle.o2_stands.specs.Stands.{IsSetTo, Stands};
 ghost use Rattle.o2_store.specs.Shelf.{SameTables};
-ghost use Rattle.o2_world.specs.Run.{is_over, next_dispatch};
+ghost use Rattle.o2_world.specs.Run.{is_over, next_dispatch, words_coming};
 ghost use Rattle.o2_world.specs.World.{Setting, World};
 ghost use Rattle.o2_slices.specs.Laters.{StandsLater};
 ghost use Rattle.o2_space.specs.Frames.{AddsNone, KeepsSpace};
@@ -25,10 +25,11 @@ pub fn slice_of(space: &mut Space, pid: u16, most: u32) -> u32
     requires live { lives space.old.ends pid ≡ true }
     requires together { OverSome (GoTogether space.old) }
 
-    // From a machine that stands for a world in whose turn they are, as many steps of the boundless machine.
+    // From a machine that stands for a world in whose turn they are, and before whose next step no word comes, as many steps of the
+    // boundless machine.
     ensures later { (device : ℕ) (block : ℕ → List ℕ) (s : Setting) (w : World)
         → Stands (parts_in space.old device block) w → IsSetTo (parts_in space.old device block) s
-        → is_over w ≡ false → (next_dispatch s w).current ≡ pid
+        → is_over w ≡ false → words_coming w ≡ 0 → (next_dispatch s w).current ≡ pid
         → most ≤ (next_dispatch s w).left → most ≤ w.dispatch.budget
         → StandsLater (parts_in space.new device block) s w result }
     ensures within { result ≤ most }

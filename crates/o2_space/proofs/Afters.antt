@@ -36,7 +36,7 @@ pub orderly_before : (b : Before) (e : Effect) → IsOrderly b (single_stepped b
 orderly_before b e = go (has_trap_flag b.cpu.flags) (is_live e.state && not e.waits)
   where
     go : (t l : Bool) → IsOrderly b (if t && l then record e { state = Trapped 1; lines = e.lines ++ Traps b.number 1 b.cpu.cs b.cpu.ip ∷ [] } else e) → IsOrderly b e
-    go true true o = record { ruled = o.ruled; sizes = o.sizes; moves = o.moves }
+    go true true o = record { ruled = o.ruled; sizes = o.sizes; moves = o.moves; still = o.still }
     go true false o = o
     go false l o = o
 

@@ -1,5 +1,5 @@
 -- A step of a process that is done, or that asks for a call on segments, which is then made.
-use Rattle.std.proofs.Common.{◌≡◌, ℕ, ◌≤◌, Bool, true, false, List, Option, ap, sym, refl, subst, arith}
+use Rattle.std.proofs.Common.{◌≡◌, ℕ, ◌≤◌, Bool, true, false, List, Option, length, ap, sym, refl, subst, arith}
 use Rattle.std.specs.Prelude.{Result, Ok, Err}
 use Rattle.o2_isa.specs.declared.cpu.Cpu.{Cpu}
 use Rattle.o2_isa.specs.View.{bound_registers}
@@ -10,14 +10,15 @@ use Rattle.o2_gate.specs.declared.arguments.Arguments.{Arguments}
 use Rattle.o2_run.specs.declared.fault.Fault.{Fault}
 use Rattle.o2_run.specs.declared.fault.Fault.TheVariants as fault
 use Rattle.o2_run.specs.declared.steps.Stop.TheVariants as stop
-use Rattle.o2_run.specs.Pieces.{Counts, Hands, PartHands, counts, puts_of}
+use Rattle.o2_run.specs.Pieces.{Counts, FailsInLine, Hands, counts, puts_of, told_counts}
+use Rattle.o2_gate.proofs.Fails.{no_piece}
 use Rattle.o2_run.specs.Room.{Fits}
 use Rattle.o2_world.specs.Calls.{Before, Effect}
 use Rattle.o2_world.specs.Effect.{effect}
 use Rattle.o2_world.specs.World.{Process, Setting, World}
 use Rattle.o2_stands.specs.Parts.{Parts}
 use Rattle.o2_stands.specs.Stands.{Stands}
-use Rattle.o2_stepping.specs.Pieces.{HandsWhole, RanHands, StepHands}
+use Rattle.o2_stepping.specs.Pieces.{HandsWhole, LatePart, RanHands, RanPart, StepHands, StepPart}
 use Rattle.o2_stepping.specs.Rooms.{all_names, room_in}
 use Rattle.o2_stepping.specs.Shapes.{SameShape}
 use Rattle.o2_stepping.specs.Taken.{IsSwapStop, OnAsks, OnNoStep, OnBegun, OnStep, SteppedFor, TakenFor}
@@ -50,6 +51,9 @@ module _ (z : Stepped) (ran : Ran) (is : z ≡ stepped.Ran ran) where
 
   pub ran_puts : (n : Counts) → StepHands n (Ok z) → RanHands n (Ok ran)
   ran_puts n h = hands_whole ran.whole n (puts_of ran.tally.bytes) ran.tally.lines (subst (λ (x : Stepped). StepHands n (Ok x)) is h)
+
+  pub ran_part : (e : Effect) (n : Counts) → StepPart e n (Ok z) → RanPart e n (Ok ran)
+  ran_part e n h = subst (λ (x : Stepped). StepPart e n (Ok x)) is h
 
   pub ran_cause : (sink input : Type 0) → SteppedFor sink input (Ok z) → ran.whole ≡ false → sink
   ran_cause sink input h = subst (λ (x : Stepped). SteppedFor sink input (Ok x)) is h
@@ -109,10 +113,27 @@ cause_by P Q R (Err (fault.Stopped stop.NoRoom)) f h = tt
 cause_by P Q R (Err (fault.Stopped stop.SwapFull)) f h = tt
 cause_by P Q R (Err (fault.Stopped stop.SwapFault)) f h = tt
 
-pub part_none : (e : Effect) (n : Counts) (result : Result Ran Fault) → OnBegun result ⊥ → PartHands e n result
-part_none e n (Ok ran) h = tt
-part_none e n (Err fault.Sink) h = absurd h
-part_none e n (Err (fault.Stopped why)) h = tt
+-- a call stops for room or for swap alone, and then it leaves nothing of its lines
+pub part_none : (e : Effect) (n : Counts) (f : Fault) → IsSwapStop f → (let result : Result Ran Fault = Err f in RanPart e n result)
+part_none e n fault.Sink is = absurd is
+part_none e n (fault.Stopped why) is = tt
+
+-- its line that failed, by the effect
+pub part_late : (e : Effect) (c x y : ℕ) (r q : Option (List ℕ)) (ran : Ran) → length e.piece ≡ 0 → (ran.whole ≡ false → FailsInLine e.lines r q x y)
+    → (let result : Result Ran Fault = Ok ran in RanPart e (told_counts c c x y 0 r q) result)
+part_late e c x y r q ran none late = go ran.whole late
+  where
+    go : (w : Bool) → (w ≡ false → FailsInLine e.lines r q x y) → LatePart w e (told_counts c c x y 0 r q)
+    go true h = tt
+    go false h = (no_piece c (length e.piece) none, h refl)
+
+-- from where the report had taken as much
+pub part_from : (e : Effect) {c d r k : ℕ} {t s : Option (List ℕ)} (q : ℕ) (u : Option (List ℕ)) (result : Result Ran Fault) → d ≡ c → k ≡ r → s ≡ t
+    → RanPart e (told_counts c c k q 0 s u) result → RanPart e (told_counts c d r q 0 t u) result
+part_from e {c} {d} {r} {k} {t} {s} q u result console report text h =
+    subst (λ (z : ℕ). RanPart e (told_counts c z r q 0 t u) result) (sym console)
+    (subst (λ (z : ℕ). RanPart e (told_counts c c z q 0 t u) result) report
+    (subst (λ (z : Option (List ℕ)). RanPart e (told_counts c c k q 0 z u) result) text h))
 
 -- A call stops for room or for swap alone.
 

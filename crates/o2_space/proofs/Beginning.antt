@@ -32,4 +32,4 @@ module _ (m n : Space) (device count : ℕ) (block holds : ℕ → List ℕ) (ke
   }
 
   pub turn_kept : (number : ℕ) → HasTurn m device block s w number → HasTurn n count holds s w number
-  turn_kept number t = record { agrees = agrees_kept t.agrees; sound = t.sound; turn = t.turn }
+  turn_kept number t = record { agrees = agrees_kept t.agrees; sound = t.sound; turn = t.turn; wordless = t.wordless }

@@ -67,8 +67,8 @@ module _ (p : Parts) (t : Shelf) (n : Maps) (device : ℕ) (block : ℕ → List
     each_is name k e = sym (same name) ∙ (all_bytes t n p.images device block inside name ∙ ap (all_under t (picture p.images) block) e)
 
     segment_is : (name k : ℕ) (x y : Segment) → key_of t name ≡ Some k → IsSegment p k x → y.bytes ≡ bytes name → y.clean ≡ x.clean → y.flags ≡ x.flags → y.lock ≡ x.lock → y.shared ≡ x.shared
-        → IsSegment q k y
-    segment_is name k x y e is put clean flags lock shared =
+        → y.discarded ≡ x.discarded → IsSegment q k y
+    segment_is name k x y e is put clean flags lock shared discarded =
         let b : y.bytes ≡ table (byte_at t (picture p.images) block k) (entry t k).size = put ∙ each_is name k e in
         let f = byte_at t (picture p.images) block k in
         let size = (entry t k).size in
@@ -80,19 +80,20 @@ module _ (p : Parts) (t : Shelf) (n : Maps) (device : ℕ) (block : ℕ → List
           flags = flags ∙ (is.flags ∙ ap (λ (a : Attr). a.flags) (sym attr));
           lock = lock ∙ (is.lock ∙ ap (λ (a : Attr). a.lock) (sym attr));
           shared = shared ∙ (is.shared ∙ ap (λ (a : Attr). a.shared) (sym attr));
+          discarded = discarded ∙ (is.discarded ∙ ap (λ (a : Attr). a.gone) (sym attr));
         }
 
     written : (name : ℕ) (o : Option ℕ) (v : Option Segment) → key_of t name ≡ o → IsNamed p o v → IsNamed q o (option_map (λ (x : Segment). record x { bytes = bytes name }) v)
     written name None None e is = is
     written name (Some k) None e is = absurd is
     written name None (Some x) e is = absurd is
-    written name (Some k) (Some x) e is = segment_is name k x (record x { bytes = bytes name }) e is refl refl refl refl refl
+    written name (Some k) (Some x) e is = segment_is name k x (record x { bytes = bytes name }) e is refl refl refl refl refl refl
 
     unwritten : (name : ℕ) (o : Option ℕ) (v : Option Segment) → key_of t name ≡ o → bytes name ≡ segment_bytes v → IsNamed p o v → IsNamed q o v
     unwritten name None None e b is = is
     unwritten name (Some k) None e b is = absurd is
     unwritten name None (Some x) e b is = absurd is
-    unwritten name (Some k) (Some x) e b is = segment_is name k x x e is (sym b) refl refl refl refl
+    unwritten name (Some k) (Some x) e b is = segment_is name k x x e is (sym b) refl refl refl refl refl
 
     module _ (w : World) (stands : Stands p w) where
       key_is : (name : ℕ) → IsNamed p (key_of t name) (get w.names name)

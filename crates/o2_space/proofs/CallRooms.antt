@@ -1,6 +1,6 @@
 -- The room of the world's next step that is a call on segments: it fits where the call is made.
-use Rattle.std.proofs.Common.{◌≡◌, ◌⊎◌, inl, inr, ℕ, ◌-◌, ◌/◌, ◌<◌, ◌≤◌, ◌||◌, Bool, true, false, cond, List, [], length, map, Option, Some, None, is_some, IsSome, ap, sym, ◌∙◌, refl, subst, arith, if◌then◌else◌}
-use Rattle.std.specs.Prelude.{nat_lt}
+use Rattle.std.proofs.Common.{◌≡◌, ◌⊎◌, inl, inr, ℕ, ◌-◌, ◌/◌, ◌<◌, ◌≤◌, ◌||◌, Bool, true, false, cond, List, [], ◌∷◌, length, map, Option, Some, None, is_some, IsSome, ap, sym, ◌∙◌, refl, subst, arith, if◌then◌else◌}
+use Rattle.std.specs.Prelude.{max, nat_lt}
 use Rattle.std.specs.List.{list_any}
 use Rattle.std.proofs.lemmas.Bool.{false≢true}
 use mathlib.Core.Path.{fun_ext}
@@ -11,20 +11,21 @@ use Rattle.o2_isa.specs.View.{bound_registers}
 use Rattle.o2_regions.specs.Maps.{Maps}
 use Rattle.o2_store.specs.Shelf.{entry, place_of}
 use Rattle.o2_store.proofs.Tables.{locked_at, within_at}
-use Rattle.o2_segbus.specs.Seen.{hold_in, key_of}
+use Rattle.o2_segbus.specs.Seen.{gone_in, hold_in, key_of, present_in, present_under}
+use Rattle.o2_segbus.proofs.Rulings.{gone_out}
 use Rattle.o2_shared.specs.Shares.{StillHolds}
 use Rattle.o2_calls.proofs.SharedOver.{keeps_still}
 use Rattle.o2_world.specs.Calls.{Before, Effect, returned}
-use Rattle.o2_world.specs.Changes.{Change, Drops, takes, with_all}
+use Rattle.o2_world.specs.Changes.{Change, Drops, Locks, Marks, Resizes, takes, with_all}
 use Rattle.o2_world.specs.Holders.{process_at}
 use Rattle.o2_world.specs.Known.{Known, held_at, known_of}
-use Rattle.o2_world.specs.Map.{get}
+use Rattle.o2_world.specs.Map.{Map, get}
 use Rattle.o2_world.specs.Moves.{AllMoves}
 use Rattle.o2_world.specs.Rulings.{by_load, freeing, freeing_of, grants, held_under, in_use, is_later, members, refusal}
 use Rattle.o2_world.specs.Run.{changed, next_dispatch, worked, working}
 use Rattle.o2_world.specs.Sound.{HasGoodRegisters, held_of}
 use Rattle.o2_world.specs.Tied.{IsSound}
-use Rattle.o2_world.specs.Views.{holds_in, view_of}
+use Rattle.o2_world.specs.Views.{holds_in, is_discarded, view_of}
 use Rattle.o2_world.specs.World.{Held, Process, Segment, Setting, World, is_live}
 use Rattle.o2_world.proofs.Numbers.{at_place_of}
 use Rattle.o2_world.specs.Outcomes.{gone_indexes}
@@ -37,7 +38,8 @@ use Rattle.o2_world.specs.HugeRulings.{names_one}
 use Rattle.o2_gate.specs.declared.requests.HugeArguments.{HugeArguments}
 use Rattle.o2_gate.specs.declared.requests.HugeArguments.TheVariants as huge
 use Rattle.o2_gate.specs.declared.requests.SegmentArguments.TheVariants.{Alloc, Realloc, Free, Size, Lock, Unlock, Alias, Shared, Huge}
-use Rattle.o2_run.specs.Room.{Fits, behind, is_locked, need, room, room_between, room_next, seated, seated_in, size_of, untrapped}
+use Rattle.o2_run.specs.Room.{Fits, behind, is_locked, kept_size, need, needs, room, room_between, room_next, rounded as whole, seated, seated_in, size_of, untrapped}
+use Rattle.o2_run.proofs.Behind.{room_at_once}
 use Rattle.o2_calls.specs.Acts.{ruling_of}
 use Rattle.o2_calls.specs.HugeActs.{huge_ruling}
 use Rattle.o2_calls.specs.Stops.{LeavesHolds, LeavesRunHolds}
@@ -46,20 +48,21 @@ use Rattle.o2_calls.proofs.Overs.{none_next}
 use Rattle.o2_calls.proofs.Replies.{asked_is}
 use Rattle.o2_stands.specs.Parts.{Parts}
 use Rattle.o2_stands.specs.Stands.{AreLawful, IsNamed, StandsIn}
-use Rattle.o2_stands.specs.Sums.{AreAllHere, AreAtMost, part_of}
+use Rattle.o2_stands.specs.Sums.{AreAllHere, AreAtMost, counts, part_of}
 use Rattle.o2_stands.proofs.Rooms.{found_at, name_facts, room_at_most, room_most}
-use Rattle.o2_stands.proofs.Views.{process_holds}
+use Rattle.o2_stands.proofs.Views.{name_mark, process_holds}
 use Rattle.o2_stands.proofs.Worlds.{put_here}
 use Rattle.o2_stepping.specs.Nexts.{IsNext, next_start}
 use Rattle.o2_stepping.specs.Ran.{IsCallOf}
 use Rattle.o2_stepping.specs.Rooms.{needed_names, room_at, room_in}
 use Rattle.o2_stepping.proofs.Asked.{untrapped_asked}
 use Rattle.o2_stepping.proofs.Named.{both_in, one_of, or_front}
-use Rattle.o2_stepping.proofs.NextRooms.{IsLess, bytes_long, takes_most, untrapped_sizes}
+use Rattle.o2_stepping.proofs.NextRooms.{IsLess, bytes_long, kept_is, kept_less, takes_most, untrapped_sizes}
+use Rattle.o2_space.proofs.Anew.{AreAnew, anew_size, calls_anew}
 use Rattle.o2_space.proofs.Remains.{IsMore, NoneLess, NoneMore, Remains, SizesRuns, all_remains, cut_less, freed}
 use Rattle.o2_space.proofs.RunSizing.{Cut, Grown, IsSizing, allocation_sizing, grown_takes, reallocation_sizing}
 use Rattle.o2_space.proofs.Seats.{KeepsNames, StaySelectors, all_names_kept, seats_of}
-use Rattle.o2_space.proofs.Sides.{room_from_behind}
+use Rattle.o2_space.proofs.Sides.{emptied_names, lock_emptied, once_emptied, room_emptied, room_from_behind, size_emptied, some_emptied}
 
 -- What a free changes.
 
@@ -147,9 +150,9 @@ module _ (p : Parts) (s : Setting) (w : World) (x : Process) (next : IsNext p s 
   behind_is = ap (changed w d x) effect_is
 
   pub room_is : room s w ≡ room_between w.names v.names want
-  unfolding room
   room_is =
-      ap (room_next s w d) next.chosen
+      room_at_once s w next.wordless
+      ∙ ap (room_next s w d) next.chosen
       ∙ ap (λ (z : World). room_between w.names z.names (need b z.names (process_at z.processes d.current))) behind_is
 
   pub world_is : v ≡ with_all u e.changes
@@ -178,8 +181,12 @@ module _ (p : Parts) (s : Setting) (w : World) (x : Process) (next : IsNext p s 
     sized = λ segs part selector. reallocation_sizing s w sound.tied next.stands.tidy d.current segs part selector x.cpu;
   }
 
+  -- what it makes anew was discarded
+  anew : (name size : ℕ) → e.changes ≡ Marks name false ∷ Resizes name size ∷ Locks name 1 ∷ [] → kept_size (get w.names name) ≡ 0
+  anew name size is = anew_size s w name (subst (AreAnew (known_of s w)) is (calls_anew (known_of s w) a.request d.current x.cpu)).0
+
   left : Remains w.names v.names
-  left = subst (λ (z : World). Remains w.names z.names) (sym world_is) (all_remains w d x e sizes new fresh b run_sizes e.cpu e.changes moves)
+  left = subst (λ (z : World). Remains w.names z.names) (sym world_is) (all_remains w d x e sizes new fresh b run_sizes e.cpu e.changes anew moves)
 
   -- a call on a run cuts what it sizes, or none of it
   pub run_sizing : (y : HugeArguments) → IsSizing w.names (huge_ruling y (known_of s w) d.current x.cpu).changes
@@ -268,8 +275,10 @@ module _ (p : Parts) (s : Setting) (w : World) (x : Process) (next : IsNext p s 
       each n k key =
           (let f = name_facts p w.processes w.names w.next_name w.reserved next.lawful next.stands n k key in
           takes_most (is_in n want) (is_locked (get w.names n)) (is_locked (get v.names n)) (nat_lt 0 (entry p.shelf k).attr.lock) (is_in (entry p.shelf k).age list)
-          (size_of (get w.names n)) (size_of (get v.names n)) (entry p.shelf k).size
-          (λ h. ap (λ (m : ℕ). is_in m list) f.2 ∙ among n h) f.1 (less n).lock f.0 (less n).size)
+          (kept_size (get w.names n)) (size_of (get v.names n)) (entry p.shelf k).size
+          (λ h. ap (λ (m : ℕ). is_in m list) f.2 ∙ among n h) f.1 (less n).lock
+          (let size = f.0 in let kept = kept_less (get w.names n) in omega (arith, size, kept))
+          (let size = f.0 in let behind = (less n).size in omega (arith, size, behind)))
 
   -- Where none goes, shrinks or loses its lock, and all that it needs is in memory behind it.
 
@@ -290,32 +299,81 @@ module _ (p : Parts) (s : Setting) (w : World) (x : Process) (next : IsNext p s 
             let age = found.1 in
             omega (arith, below, age))
 
-    all_here : AreAllHere q.shelf v.names w.names want
+    -- the names before it, of which those that were discarded have no bytes
+    abbrev old : Map Segment
+    old = emptied_names w.names
+
+    some_before : (n : ℕ) → is_some (get old n) ≡ true → is_some (get v.names n) ≡ true
+    some_before n some = (more n).some (sym (some_emptied w.names n) ∙ some)
+
+    locked_here : (n k : ℕ) → key_of q.shelf n ≡ Some k → is_locked (get v.names n) ≡ true → IsSome (place_of q.shelf k)
+    locked_here n k key locked = locked_at q.shelf k lawful.shelf (lock_above (entry q.shelf k).attr.lock (sym (facts n k key).1 ∙ locked))
+
+    old_here : (n k : ℕ) → key_of q.shelf n ≡ Some k → is_locked (get old n) ≡ true → IsSome (place_of q.shelf k)
+    old_here n k key locked = locked_here n k key ((more n).lock (sym (lock_emptied w.names n) ∙ locked))
+
+    all_here : AreAllHere q.shelf v.names old want
     all_here = record {
       grows = record {
         within = record { none = λ n none. none_before n none };
-        sizes = λ n k key. (let f = facts n k key in let a = f.0 in let l = (more n).size in omega (arith, a, l));
+        sizes = λ n k key. (let f = facts n k key in let a = f.0 in let l = (more n).size in let z = size_emptied w.names n in omega (arith, a, l, z));
       };
-      here = λ n k key e. by n k key (one_of (is_in n want) (is_locked (get w.names n)) e);
+      here = λ n k key e. by n k key (one_of (is_in n want) (is_locked (get old n)) e);
     }
       where
-        none_before : (n : ℕ) → get v.names n ≡ None → get w.names n ≡ None
-        none_before n none = go (get w.names n) refl
+        none_before : (n : ℕ) → get v.names n ≡ None → get old n ≡ None
+        none_before n none = go (get old n) refl
           where
-            go : (o : Option Segment) → get w.names n ≡ o → o ≡ None
+            go : (o : Option Segment) → get old n ≡ o → o ≡ None
             go None e = refl
-            go (Some y) e = absurd (false≢true (sym (ap is_some none) ∙ (more n).some (ap is_some e)))
+            go (Some y) e = absurd (false≢true (sym (ap is_some none) ∙ some_before n (ap is_some e)))
 
-        by : (n k : ℕ) → key_of q.shelf n ≡ Some k → (is_in n want ≡ true) ⊎ (is_locked (get w.names n) ≡ true) → IsSome (place_of q.shelf k)
+        by : (n k : ℕ) → key_of q.shelf n ≡ Some k → (is_in n want ≡ true) ⊎ (is_locked (get old n) ≡ true) → IsSome (place_of q.shelf k)
         by n k key (inl needed) = here n k key needed
-        by n k key (inr locked) = locked_at q.shelf k lawful.shelf (lock_above (entry q.shelf k).attr.lock (sym (facts n k key).1 ∙ (more n).lock locked))
+        by n k key (inr locked) = old_here n k key locked
+
+    -- what counts is in memory behind it, and so isn't discarded there
+    whole_behind : (n : ℕ) → counts old v.names want n ≡ true → is_discarded (get v.names n) ≡ false
+    whole_behind n counted = go (key_of q.shelf n) refl (get v.names n) refl (standing.segments n)
+      where
+        placed : (k : ℕ) → key_of q.shelf n ≡ Some k → IsSome (place_of q.shelf k)
+        placed k key = by (one_of (is_in n want) (is_locked (get old n) || is_locked (get v.names n)) counted)
+          where
+            by_lock : (is_locked (get old n) ≡ true) ⊎ (is_locked (get v.names n) ≡ true) → IsSome (place_of q.shelf k)
+            by_lock (inl locked) = old_here n k key locked
+            by_lock (inr locked) = locked_here n k key locked
+
+            by : (is_in n want ≡ true) ⊎ ((is_locked (get old n) || is_locked (get v.names n)) ≡ true) → IsSome (place_of q.shelf k)
+            by (inl needed) = here n k key needed
+            by (inr locked) = by_lock (one_of (is_locked (get old n)) (is_locked (get v.names n)) locked)
+
+        not_gone : present_in q.shelf n ≡ true → (g : Bool) → gone_in q.shelf n ≡ g → g ≡ false
+        not_gone present false e = refl
+        not_gone present true e = absurd (false≢true (sym (gone_out q.shelf n lawful.shelf e) ∙ present))
+
+        go : (o : Option ℕ) → key_of q.shelf n ≡ o → (g : Option Segment) → get v.names n ≡ g → IsNamed q o g → is_discarded (get v.names n) ≡ false
+        go None e None f is = ap is_discarded f
+        go None e (Some y) f is = absurd is
+        go (Some k) e g f is =
+            name_mark q v.processes v.names v.next_name v.reserved lawful standing n
+            ∙ not_gone (ap (present_under q.shelf) e ∙ placed k e) (gone_in q.shelf n) refl
+
+    no_less : (n : ℕ) → counts old v.names want n ≡ true → needs old v.names n ≤ needs v.names old n
+    no_less n counted =
+        (let a = kept_is (get v.names n) (whole_behind n counted) in
+        let k = kept_less (get old n) in
+        by (kept_size (get old n)) (size_of (get old n)) (kept_size (get v.names n)) (size_of (get v.names n)) k a)
+      where
+        by : (k z l y : ℕ) → k ≤ z → l ≡ y → whole (max k y) ≤ whole (max l z)
+        by k z l y f e = omega (arith, f, e)
 
     fits_behind : Fits true s w
     fits_behind =
-        let turned = room_from_behind w.names v.names q.shelf.made next.stands.tidy.once standing.tidy.once (λ n some. (more n).some some) young want in
-        let most = room_most q v.processes v.names v.next_name v.reserved lawful standing w.names want all_here in
+        let emptied = room_emptied w.names v.names want in
+        let turned = room_from_behind old v.names q.shelf.made (once_emptied w.names next.stands.tidy.once) standing.tidy.once some_before young want no_less in
+        let most = room_most q v.processes v.names v.next_name v.reserved lawful standing old want all_here in
         let memory = next.set.memory in
-        λ swaps. (let r = room_is in omega (arith, r, turned, most, same, memory))
+        λ swaps. (let r = room_is in omega (arith, r, emptied, turned, most, same, memory))
 
   -- By what the call leaves.
 

@@ -25,7 +25,7 @@ use Rattle.o2_world.specs.Calls.{Before, Effect}
 use Rattle.o2_world.specs.Effect.{effect, single_stepped}
 use Rattle.o2_world.specs.Holders.{process_at}
 use Rattle.o2_world.specs.Known.{Known, known_of}
-use Rattle.o2_world.specs.Run.{before, changed, next_dispatch}
+use Rattle.o2_world.specs.Run.{before, changed, next_dispatch, words_coming}
 use Rattle.o2_world.specs.Tied.{IsSound}
 use Rattle.o2_world.specs.World.{Process, Setting, World, is_live}
 use Rattle.o2_world.proofs.Flags.{live_is}
@@ -100,7 +100,7 @@ module _ (p : Parts) (s : Setting) (w : World) (x : Process) (next : IsNext p s 
           (subst (λ (f : ℕ → Option Hold). is_in n (seated (bound_registers f x.cpu)) ≡ true) (holds p s w x next live sound a following call) seats))
       by (inr behind) =
           or_back (is_in n (seated (bound_registers (hold_in p.maps d.current) c))) (is_in n (ages_of (aimed_in p.maps d.current a)))
-          (keeps_for p.shelf p.maps d.current c b.view (holds p s w x next live sound a following call) (λ k. refl) a n
+          (keeps_for p.shelf p.maps d.current c b.view (holds p s w x next live sound a following call) a n
           (ap (is_in n) (sym (touched_asked b a following call)) ∙ behind))
 
   held_still : (n o : Maps) → StillHolds p.maps n → o.held ≡ n.held → (pid i : ℕ) (h : Held) → held_at p.maps pid i ≡ Some h → (k : Held) × (held_at o pid i ≡ Some k) × (k.id ≡ h.id)
@@ -138,7 +138,7 @@ module _ (p : Parts) (s : Setting) (w : World) (x : Process) (next : IsNext p s 
 -- By the number of the process.
 
 module _ (p : Parts) (s : Setting) (w : World) (x : Process) (lawful : AreLawful p.shelf p.maps) (set : IsSetTo p s) (stands : Stands p w) (live : is_live x.state ≡ true) (sound : IsSound w)
-    (a : Arguments) (following : ℕ) (c : Cpu) (same : c ≡ x.cpu) (keep : List SegId) where
+    (wordless : words_coming w ≡ 0) (a : Arguments) (following : ℕ) (c : Cpu) (same : c ≡ x.cpu) (keep : List SegId) where
   -- the process is the one whose step is next, and this step is the call
   pub record IsTurn (n : ℕ) : Type 0 where
     pub there : process_at w.processes n ≡ Some x
@@ -148,7 +148,7 @@ module _ (p : Parts) (s : Setting) (w : World) (x : Process) (lawful : AreLawful
     pub keeps : keep ≡ segments_of (seated_in p.maps n c ++ aimed_in p.maps n a)
 
   next_of : process_at w.processes (next_dispatch s w).current ≡ Some x → IsNext p s w x
-  next_of there = record { lawful = lawful; set = set; stands = stands; chosen = there }
+  next_of there = record { lawful = lawful; set = set; stands = stands; chosen = there; wordless = wordless }
 
   pub fits_at : (n : ℕ) → (next_dispatch s w).current ≡ n → IsTurn n → (t : Shelf) (m : Maps) → LeavesHolds a.request p.maps m → LeavesRunHolds a.request p.maps m (known_of s w) n c → t.places.size ≡ p.shelf.places.size
       → (q : Parts) → AreLawful q.shelf q.maps → IsKept p.shelf p.maps keep m t q.shelf q.maps
@@ -167,7 +167,7 @@ module _ (p : Parts) (s : Setting) (w : World) (x : Process) (lawful : AreLawful
   lacks_at n chosen =
       subst (λ (i : ℕ). IsTurn i → (ruling_of a.request (known_of s w) i c).error ≡ 0 → MayStop a.request → LacksRoom a.request p.shelf p.maps i keep → LacksRun a.request p.shelf (known_of s w) i c keep NoRoom → s.memory < room s w) chosen
       (λ turn none may lacks run.
-      lacks_call p s w x (next_of turn.there) live sound a following turn.call c same turn.ready may
+      lacks_call p s w x (next_of turn.there) live sound a following turn.call c same turn.step turn.ready may
       (subst (λ (r : Cpu). (ruling_of a.request (known_of s w) (next_dispatch s w).current r).error ≡ 0) same none)
       (subst (λ (ids : List SegId). LacksRoom a.request p.shelf p.maps (next_dispatch s w).current ids) turn.keeps lacks)
       (subst (λ (ids : List SegId). LacksRun a.request p.shelf (known_of s w) (next_dispatch s w).current x.cpu ids NoRoom) turn.keeps

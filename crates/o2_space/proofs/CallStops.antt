@@ -1,7 +1,7 @@
 -- What lacks where a call on segments stops lacks in the world.
 use Rattle.std.proofs.Common.{◌≡◌, ◌≢◌, inl, inr, ℕ, ◌+◌, ◌/◌, ◌<◌, ◌≤◌, ◌==◌, ◌&&◌, ◌||◌, Bool, true, false, cond, eqb, List, [], ◌∷◌, length, min, Option, Some, None}
 use Rattle.std.proofs.Common.{is_some, IsSome, IfSome, option_map, ap, sym, ◌∙◌, refl, subst, arith, if◌then◌else◌}
-use Rattle.std.specs.Prelude.{max, nat_le, nat_lt}
+use Rattle.std.specs.Prelude.{nat_le, nat_lt}
 use Rattle.std.specs.List.{list_any}
 use Rattle.std.proofs.lemmas.Bool.{cases_eq, cond-false, eqb-true, false≢true}
 use Rattle.std.proofs.lemmas.List.{length-replicate, length-set}
@@ -17,39 +17,40 @@ use Rattle.o2_regions.specs.Maps.{Maps, held_at as held_there}
 use Rattle.o2_store.specs.Needs.{has_age, is_named, named_in}
 use Rattle.o2_store.specs.Shelf.{Adds, Shelf, entry, entry_of, rounded}
 use Rattle.o2_store.proofs.Tables.{slot-set_other, slot-set_same}
-use Rattle.o2_segbus.specs.Seen.{key_of}
+use Rattle.o2_segbus.specs.Seen.{gone_under, key_of}
 use Rattle.o2_service.specs.Told.{IsHeldWell}
 use Rattle.o2_world.specs.Calls.{Before}
-use Rattle.o2_world.specs.Changes.{Change, Drops, Finishes, Frees, Holds, Locks, Makes, Marks as MarksChange, Names, Reserves, Resizes, swept, takes, with_all, with_change, with_changes}
-use Rattle.o2_world.specs.Known.{Known, Marks, held_at, known_of}
-use Rattle.o2_world.specs.Map.{Map, at_key, get}
+use Rattle.o2_world.specs.Changes.{Change, Drops, Finishes, Frees, Holds, Locks, Makes, Marks as MarksChange, Names, Reserves, Resizes, marked, swept, takes, with_all, with_change, with_changes}
+use Rattle.o2_world.specs.Known.{Known, Marks, held_at, known_of, marks_of}
+use Rattle.o2_world.specs.Map.{Map, get}
 use Rattle.o2_world.specs.Rulings.{allocation, allocation_at, free_index, full_size, grants, held_by_call, held_under, is_alias, is_discardable, is_in_run}
-use Rattle.o2_world.specs.Rulings.{keeps_its_size, locking, locking_of, locking_with, made_segment, reallocation, reallocation_of, reallocation_with, refusal, region_by}
+use Rattle.o2_world.specs.Rulings.{keeps_its_size, locking, locking_of, locking_with, made_segment, reallocation, reallocation_of, reallocation_with, resizes_with, refusal, region_by}
 use Rattle.o2_world.specs.Run.{next_dispatch}
 use Rattle.o2_world.specs.Tied.{IsSound}
+use Rattle.o2_world.specs.Views.{is_discarded}
 use Rattle.o2_world.specs.World.{Held, Process, Segment, Setting, World, is_live}
-use Rattle.o2_world.proofs.MapLemmas.{get-at_key}
 use Rattle.o2_ends.proofs.Letting.{live_id}
 use Rattle.o2_gate.specs.declared.requests.SegmentArguments.{SegmentArguments}
 use Rattle.o2_gate.specs.declared.arguments.Arguments.{Arguments}
 use Rattle.o2_gate.specs.declared.requests.SegmentArguments.TheVariants.{Alloc, Huge, Realloc, Lock}
 use Rattle.o2_gate.specs.declared.requests.HugeArguments.{HugeArguments}
-use Rattle.o2_run.specs.Room.{is_locked, larger, room_between, rounded as whole, size_of}
+use Rattle.o2_run.specs.Room.{is_locked, rounded as whole, size_of}
 use Rattle.o2_segs.specs.Made.{new_entry}
 use Rattle.o2_calls.specs.Acts.{MayStop, ruling_of}
 use Rattle.o2_calls.specs.HugeActs.{huge_ruling}
 use Rattle.o2_calls.specs.Stops.{held_by}
 use Rattle.o2_stands.specs.Parts.{Parts, held_in, held_of}
 use Rattle.o2_stands.specs.Stands.{AreLawful, IsNamed, Stands}
-use Rattle.o2_stands.specs.Sums.{AreAtLeast, counts, part_of}
+use Rattle.o2_stands.specs.Sums.{counts}
 use Rattle.o2_stands.proofs.Rooms.{name_facts}
+use Rattle.o2_stands.proofs.Views.{name_mark}
 use Rattle.o2_stepping.specs.Nexts.{IsNext, next_start}
 use Rattle.o2_stepping.specs.Ran.{IsCallOf}
 use Rattle.o2_stepping.proofs.Named.{age_is, or_back}
 use Rattle.o2_space.proofs.CallRooms.{e, new, run_changes_are, run_sizing, sizes, u, v, want, world_is}
-use Rattle.o2_space.proofs.Remains.{by_key, locked_to, resized_size, sized_to, written_some}
+use Rattle.o2_space.proofs.Remains.{at_same, at_thrice, by_key, locked_to, resized_size, sized_to, written_size, written_some}
 use Rattle.o2_space.proofs.RunSizing.{AllAre, Cut, Grown, IsGrownBy, IsSizing, grown_takes}
-use Rattle.o2_space.proofs.Sides.{room_with_new, room_without_new}
+use Rattle.o2_space.proofs.Sides.{WeighsLess, part_by, room_with_new, room_without_new, sum_by}
 
 -- What a call that comes to no error changes.
 
@@ -69,41 +70,51 @@ record IsLock (k : Known) (n z : ℕ) (changes : List Change) : Type 0 where
 lock_is : (k : Known) (n z : ℕ) → (locking k n z).error ≡ 0 → IsLock k n z (locking k n z).changes
 lock_is k n z e = go (held_under k n z) refl e
   where
-    by_test : (h : Held) → held_under k n z ≡ Some h → (count : ℕ) → 0 < count → (t : Bool)
-        → (cond t (grants 0 (Locks h.name count ∷ [])) (refusal 5)).error ≡ 0 → IsLock k n z (cond t (grants 0 (Locks h.name count ∷ [])) (refusal 5)).changes
-    by_test h under count some true f = record { held = h; under = under; count = count; some = above_zero count some; is = refl }
-    by_test h under count some false f = absurd (five f)
+    gone : ◌≡◌ {A = ℕ} 157 0 → ⊥
+    gone f = omega (arith, f)
+
+    by_test : (h : Held) → held_under k n z ≡ Some h → (count : ℕ) → 0 < count → (t d : Bool)
+        → (cond t (cond d (refusal 157) (grants 0 (Locks h.name count ∷ []))) (refusal 5)).error ≡ 0
+        → IsLock k n z (cond t (cond d (refusal 157) (grants 0 (Locks h.name count ∷ []))) (refusal 5)).changes
+    by_test h under count some true false f = record { held = h; under = under; count = count; some = above_zero count some; is = refl }
+    by_test h under count some true true f = absurd (gone f)
+    by_test h under count some false d f = absurd (five f)
 
     by_marks : (h : Held) → held_under k n z ≡ Some h → (o : Option Marks) → (locking_with h.name o).error ≡ 0 → IsLock k n z (locking_with h.name o).changes
     by_marks h under None f = absurd (five f)
-    by_marks h under (Some m) f = by_test h under (min (m.lock + 1) 255) (omega arith) (is_discardable m) f
+    by_marks h under (Some m) f = by_test h under (min (m.lock + 1) 255) (omega arith) (is_discardable m) m.discarded f
 
     go : (o : Option Held) → held_under k n z ≡ o → (locking_of k o).error ≡ 0 → IsLock k n z (locking_of k o).changes
     go None under f = absurd (five f)
     go (Some h) under f = by_marks h under (k.segment h.name) f
 
+-- the segment gets the size; where it was discarded it is made anew
 record IsSize (k : Known) (n size z : ℕ) (changes : List Change) : Type 0 where
   held : Held
   under : held_under k n z ≡ Some held
-  is : changes ≡ Resizes held.name (full_size size) ∷ []
+  marks : Marks
+  segment : k.segment held.name ≡ Some marks
+  is : changes ≡ resizes_with held.name (full_size size) marks.discarded
 
 size_is : (k : Known) (n size z : ℕ) → (reallocation k n size z).error ≡ 0 → IsSize k n size z (reallocation k n size z).changes
 size_is k n size z e = go (held_under k n z) refl e
   where
-    by_test : (h : Held) → held_under k n z ≡ Some h → (t : Bool)
-        → (cond t (refusal 5) (grants 0 (Resizes h.name (full_size size) ∷ []))).error ≡ 0 → IsSize k n size z (cond t (refusal 5) (grants 0 (Resizes h.name (full_size size) ∷ []))).changes
-    by_test h under true f = absurd (five f)
-    by_test h under false f = record { held = h; under = under; is = refl }
+    by_test : (h : Held) → held_under k n z ≡ Some h → (m : Marks) → k.segment h.name ≡ Some m → (t : Bool)
+        → (cond t (refusal 5) (grants 0 (resizes_with h.name (full_size size) m.discarded))).error ≡ 0
+        → IsSize k n size z (cond t (refusal 5) (grants 0 (resizes_with h.name (full_size size) m.discarded))).changes
+    by_test h under m there true f = absurd (five f)
+    by_test h under m there false f = record { held = h; under = under; marks = m; segment = there; is = refl }
 
-    by_marks : (h : Held) → held_under k n z ≡ Some h → (o : Option Marks) → (reallocation_with h.name (full_size size) o).error ≡ 0 → IsSize k n size z (reallocation_with h.name (full_size size) o).changes
-    by_marks h under None f = absurd (five f)
-    by_marks h under (Some m) f = by_test h under (keeps_its_size (full_size size) m) f
+    by_marks : (h : Held) → held_under k n z ≡ Some h → (o : Option Marks) → k.segment h.name ≡ o → (reallocation_with h.name (full_size size) o).error ≡ 0
+        → IsSize k n size z (reallocation_with h.name (full_size size) o).changes
+    by_marks h under None there f = absurd (five f)
+    by_marks h under (Some m) there f = by_test h under m there (keeps_its_size (full_size size) m) f
 
     by_kind : (h : Held) → held_under k n z ≡ Some h → (t : Bool)
         → (cond t (refusal 5) (reallocation_with h.name (full_size size) (k.segment h.name))).error ≡ 0
         → IsSize k n size z (cond t (refusal 5) (reallocation_with h.name (full_size size) (k.segment h.name))).changes
     by_kind h under true f = absurd (five f)
-    by_kind h under false f = by_marks h under (k.segment h.name) f
+    by_kind h under false f = by_marks h under (k.segment h.name) refl f
 
     go : (o : Option Held) → held_under k n z ≡ o → (reallocation_of k (full_size size) o).error ≡ 0 → IsSize k n size z (reallocation_of k (full_size size) o).changes
     go None under f = absurd (five f)
@@ -188,12 +199,12 @@ pub counted_larger : (t : Bool) (n k : ℕ) → t ≡ true → n ≤ k → n ≤
 counted_larger true n k e l = l
 counted_larger false n k e l = absurd (false≢true e)
 
-module _ (p : Parts) (w : World) (lawful : AreLawful p.shelf p.maps) (stands : Stands p w) (names : Map Segment) (list : List ℕ) (base : ℕ → ℕ) (least : AreAtLeast p.shelf w.names names list base) where
+module _ (p : Parts) (w : World) (lawful : AreLawful p.shelf p.maps) (stands : Stands p w) (names : Map Segment) (list : List ℕ) (g base : ℕ → ℕ) (least : WeighsLess p.shelf (part_by g w.names names list) base) where
   abbrev weight : ℕ → ℕ → ℕ → ℕ
   weight key top k = if k == key then top else base k
 
   -- where one number weighs more
-  with_top : (key top : ℕ) → IsSome (slot_at p.shelf.entries key) → ((n : ℕ) → key_of p.shelf n ≡ Some key → top ≤ part_of w.names names list n) → AreAtLeast p.shelf w.names names list (weight key top)
+  with_top : (key top : ℕ) → IsSome (slot_at p.shelf.entries key) → ((n : ℕ) → key_of p.shelf n ≡ Some key → top ≤ part_by g w.names names list n) → WeighsLess p.shelf (part_by g w.names names list) (weight key top)
   with_top key top live more = record {
     none = λ k gone. none k gone (k == key) refl;
     each = λ n k f. each n k f (k == key) refl;
@@ -203,18 +214,18 @@ module _ (p : Parts) (w : World) (lawful : AreLawful p.shelf p.maps) (stands : S
       none k gone true e = absurd (false≢true (sym (ap is_some gone) ∙ (ap (λ (j : ℕ). is_some (slot_at p.shelf.entries j)) (eqb-true k key e) ∙ live)))
       none k gone false e = least.none k gone
 
-      each : (n k : ℕ) → key_of p.shelf n ≡ Some k → (t : Bool) → (k == key) ≡ t → (if t then top else base k) ≤ part_of w.names names list n
+      each : (n k : ℕ) → key_of p.shelf n ≡ Some k → (t : Bool) → (k == key) ≡ t → (if t then top else base k) ≤ part_by g w.names names list n
       each n k f true e = more n (f ∙ ap (λ (j : ℕ). Some j) (eqb-true k key e))
       each n k f false e = least.each n k f
 
-  pub top_least : (key top : ℕ) → IsSome (slot_at p.shelf.entries key) → ((n : ℕ) → key_of p.shelf n ≡ Some key → top ≤ part_of w.names names list n)
-      → over (weight key top) (length p.shelf.entries) ≤ room_between w.names names list
+  pub top_least : (key top : ℕ) → IsSome (slot_at p.shelf.entries key) → ((n : ℕ) → key_of p.shelf n ≡ Some key → top ≤ part_by g w.names names list n)
+      → over (weight key top) (length p.shelf.entries) ≤ sum_by g w.names names list
   top_least key top live more =
-      room_without_new p w.processes w.names w.next_name w.reserved lawful stands names list (weight key top) (with_top key top live more)
+      room_without_new p w.processes w.names w.next_name w.reserved lawful stands names list g (weight key top) (with_top key top live more)
 
-  pub new_least : (n top : ℕ) → get w.names n ≡ None → is_some (get names n) ≡ true → top ≤ part_of w.names names list n → over base (length p.shelf.entries) + top ≤ room_between w.names names list
+  pub new_least : (n top : ℕ) → get w.names n ≡ None → is_some (get names n) ≡ true → top ≤ part_by g w.names names list n → over base (length p.shelf.entries) + top ≤ sum_by g w.names names list
   new_least n top none some more =
-      (let a = room_with_new p w.processes w.names w.next_name w.reserved lawful stands names list base least n none some in omega (arith, a, more))
+      (let a = room_with_new p w.processes w.names w.next_name w.reserved lawful stands names list g base least n none some in omega (arith, a, more))
 
 -- A store with a segment more.
 
@@ -281,11 +292,25 @@ size_there : (size : ℕ) (o : Option Segment) → is_some o ≡ true → size_o
 size_there size None some = absurd (false≢true some)
 size_there size (Some y) some = resized_size size y.bytes
 
-at_same : (n : ℕ) (f : Segment → Segment) (m : Map Segment) → get (at_key n f m) n ≡ option_map f (get m n)
-at_same n f m = get-at_key n n f m ∙ ap (λ (t : Bool). if t then option_map f (get m n) else get m n) (equal n)
+lock_size : (count : ℕ) (o : Option Segment) → size_of (option_map (locked_to count) o) ≡ size_of o
+lock_size count None = refl
+lock_size count (Some y) = refl
+
+-- one that is made anew
+remade_lock : (size : ℕ) (o : Option Segment) → is_some o ≡ true → is_locked (option_map (locked_to 1) (option_map (sized_to size) (option_map (marked false) o))) ≡ true
+remade_lock size None some = absurd (false≢true some)
+remade_lock size (Some y) some = refl
+
+remade_size : (size : ℕ) (o : Option Segment) → is_some o ≡ true → size_of (option_map (locked_to 1) (option_map (sized_to size) (option_map (marked false) o))) ≡ size
+remade_size size None some = absurd (false≢true some)
+remade_size size (Some y) some = resized_size size y.bytes
+
+mark_is : (o : Option Segment) (m : Marks) → option_map marks_of o ≡ Some m → m.discarded ≡ is_discarded o
+mark_is None m e = absurd (let z : ◌≡◌ {A = Option Marks} None (Some m) = e in cc)
+mark_is (Some y) m e = (let z : ◌≡◌ {A = Option Marks} (Some (marks_of y)) (Some m) = e in same (marks_of y) m z)
   where
-    equal : (k : ℕ) → (k == k) ≡ true
-    equal k = grind arith
+    same : (q r : Marks) → Some q ≡ Some r → r.discarded ≡ q.discarded
+    same q r e = cc
 
 put_same : (n : ℕ) (y : Segment) (m : Map Segment) → get ((n, y) ∷ m) n ≡ Some y
 put_same n y m = ap (λ (t : Bool). if t then Some y else get m n) (equal n)
@@ -358,6 +383,9 @@ module _ (p : Parts) (s : Setting) (w : World) (x : Process) (next : IsNext p s 
   held_name : (z name : ℕ) (h : IsThere p.maps pid z name) (n : ℕ) → key_of p.shelf n ≡ Some h.held.id.key → name ≡ n
   held_name z name h n key = sym h.named ∙ (sym (age_is p.shelf h.held.id (well.live pid (z / 8) h.held h.at)) ∙ (facts n h.held.id.key key).2)
 
+  held_is : {q r : HeldThere} → Some q ≡ Some r → q ≡ r
+  held_is e = cc
+
   held_live : (z name : ℕ) (h : IsThere p.maps pid z name) → IsSome (slot_at p.shelf.entries h.held.id.key)
   held_live z name h = (live_id p.shelf h.held.id (well.live pid (z / 8) h.held h.at)).0
 
@@ -375,10 +403,38 @@ module _ (p : Parts) (s : Setting) (w : World) (x : Process) (next : IsNext p s 
   changes_are : (y : SegmentArguments) → a.request ≡ y → (e p s w x next live sound a following call).changes ≡ (ruling_of y (known_of s w) pid x.cpu).changes
   changes_are y is = ap (λ (r : SegmentArguments). (ruling_of r (known_of s w) pid x.cpu).changes) is
 
-  module _ (list : List ℕ) (base : ℕ → ℕ) (least : AreAtLeast p.shelf w.names behind_it.names list base) where
+  -- what is made anew is locked
+  pub remade_over : (size z : ℕ) → a.request ≡ Realloc size z → (reallocation (known_of s w) pid size z).error ≡ 0 → (h : HeldThere) → held_by p.maps pid z ≡ Some h
+      → (entry p.shelf h.id.key).attr.gone ≡ true → (n : ℕ) → key_of p.shelf n ≡ Some h.id.key → is_locked (get behind_it.names n) ≡ true
+  unfolding with_changes
+  remade_over size z is none y under gone n key =
+      let l = size_is (known_of s w) pid size z none in
+      let name = l.held.name in
+      let h = there_by p s w next.stands pid z l.held l.under in
+      let key_is : h.held.id.key ≡ y.id.key = ap (λ (q : HeldThere). q.id.key) (held_is (sym h.under ∙ under)) in
+      let same = held_name z name h n (key ∙ ap (λ (k : ℕ). Some k) (sym key_is)) in
+      let mark : is_discarded (get w.names n) ≡ true =
+      name_mark p w.processes w.names w.next_name w.reserved next.lawful next.stands n ∙ (ap (gone_under p.shelf) key ∙ gone) in
+      let discarded : l.marks.discarded ≡ true = mark_is (get w.names name) l.marks l.segment ∙ (ap (λ (k : ℕ). is_discarded (get w.names k)) same ∙ mark) in
+      let some : is_some (get w.names name) ≡ true = subst (λ (k : ℕ). is_some (get w.names k) ≡ true) (sym same) (there n y.id.key key) in
+      let names = names_are (resizes_with name (full_size size) true) (changes_are (Realloc size z) is ∙ (l.is ∙ ap (resizes_with name (full_size size)) discarded)) in
+      subst (λ (k : ℕ). is_locked (get behind_it.names k) ≡ true) same
+      (ap (λ (m : Map Segment). is_locked (get m name)) names
+      ∙ (ap is_locked (at_thrice name (full_size size) before_it.names)
+      ∙ remade_lock (full_size size) (get before_it.names name) (still_there name some)))
+
+  -- the size of what gets one
+  sized_there : (name size : ℕ) → is_some (get w.names name) ≡ true → (discarded : Bool) → size_of (get (with_all before_it (resizes_with name size discarded)).names name) ≡ size
+  unfolding with_changes
+  sized_there name size some false = ap size_of (at_same name (sized_to size) before_it.names) ∙ size_there size (get before_it.names name) (still_there name some)
+  sized_there name size some true = ap size_of (at_thrice name size before_it.names) ∙ remade_size size (get before_it.names name) (still_there name some)
+
+  -- Where names weigh what they do behind it, at least.
+  module _ (list : List ℕ) (g base : ℕ → ℕ) (now : (n : ℕ) → whole (size_of (get behind_it.names n)) ≤ g n)
+      (least : WeighsLess p.shelf (part_by g w.names behind_it.names list) base) where
     -- a segment that is locked
     pub lock_over : (z : ℕ) → a.request ≡ Lock z → (locking (known_of s w) pid z).error ≡ 0
-        → (name : ℕ) × (h : IsThere p.maps pid z name) × (over (λ k. if k == h.held.id.key then rounded (entry p.shelf h.held.id.key).size else base k) (length p.shelf.entries) ≤ room_between w.names behind_it.names list)
+        → (name : ℕ) × (h : IsThere p.maps pid z name) × (over (λ k. if k == h.held.id.key then rounded (entry p.shelf h.held.id.key).size else base k) (length p.shelf.entries) ≤ sum_by g w.names behind_it.names list)
     unfolding with_changes
     lock_over z is none =
         let l = lock_is (known_of s w) pid z none in
@@ -387,7 +443,7 @@ module _ (p : Parts) (s : Setting) (w : World) (x : Process) (next : IsNext p s 
         let names = names_are (Locks name l.count ∷ []) (changes_are (Lock z) is ∙ l.is) in (
           name,
           h,
-          top_least p w next.lawful next.stands behind_it.names list base least h.held.id.key (rounded (entry p.shelf h.held.id.key).size) (held_live z name h)
+          top_least p w next.lawful next.stands behind_it.names list g base least h.held.id.key (rounded (entry p.shelf h.held.id.key).size) (held_live z name h)
               (λ n key.
               (let same = held_name z name h n key in
               let locked : is_locked (get behind_it.names name) ≡ true =
@@ -396,49 +452,51 @@ module _ (p : Parts) (s : Setting) (w : World) (x : Process) (next : IsNext p s 
               ∙ lock_there l.count (get before_it.names name) l.some (still_there name (subst (λ (k : ℕ). is_some (get w.names k) ≡ true) (sym same) (there n h.held.id.key key)))) in
               let locked_n : is_locked (get behind_it.names n) ≡ true = subst (λ (k : ℕ). is_locked (get behind_it.names k) ≡ true) same locked in
               let size = (facts n h.held.id.key key).0 in
-              counted_larger (counts w.names behind_it.names list n) (rounded (entry p.shelf h.held.id.key).size) (larger w.names behind_it.names n)
+              let size_now : size_of (get behind_it.names name) ≡ size_of (get w.names name) =
+              ap (λ (m : Map Segment). size_of (get m name)) names
+              ∙ (ap size_of (at_same name (locked_to l.count) before_it.names)
+              ∙ (lock_size l.count (get before_it.names name)
+              ∙ written_size w (next_dispatch s w) x (e p s w x next live sound a following call) (sizes p s w x next live sound a following call) (new p s w x next live sound a following call) name)) in
+              let size_n = subst (λ (k : ℕ). size_of (get behind_it.names k) ≡ size_of (get w.names k)) same size_now in
+              let taken = now n in
+              counted_larger (counts w.names behind_it.names list n) (rounded (entry p.shelf h.held.id.key).size) (g n)
               (or_back (is_in n list) _ (or_back (is_locked (get w.names n)) (is_locked (get behind_it.names n)) locked_n))
-              (omega (arith, size)))),
+              (omega (arith, size, size_n, taken)))),
         )
 
     -- a segment that gets a size, and counts
     pub size_over : (size z : ℕ) → a.request ≡ Realloc size z → (reallocation (known_of s w) pid size z).error ≡ 0 → (h : HeldThere) → held_by p.maps pid z ≡ Some h
         → ((n : ℕ) → key_of p.shelf n ≡ Some h.id.key → counts w.names behind_it.names list n ≡ true)
-        → over (λ k. if k == h.id.key then rounded (full_size size) else base k) (length p.shelf.entries) ≤ room_between w.names behind_it.names list
-    unfolding with_changes
+        → over (λ k. if k == h.id.key then rounded (full_size size) else base k) (length p.shelf.entries) ≤ sum_by g w.names behind_it.names list
     size_over size z is none y under counted =
         let l = size_is (known_of s w) pid size z none in
         let name = l.held.name in
         let h = there_by p s w next.stands pid z l.held l.under in
         let key_is : h.held.id.key ≡ y.id.key = ap (λ (q : HeldThere). q.id.key) (held_is (sym h.under ∙ under)) in
-        let names = names_are (Resizes name (full_size size) ∷ []) (changes_are (Realloc size z) is ∙ l.is) in
-        top_least p w next.lawful next.stands behind_it.names list base least y.id.key (rounded (full_size size)) (subst (λ (k : ℕ). IsSome (slot_at p.shelf.entries k)) key_is (held_live z name h))
+        let names = names_are (resizes_with name (full_size size) l.marks.discarded) (changes_are (Realloc size z) is ∙ l.is) in
+        top_least p w next.lawful next.stands behind_it.names list g base least y.id.key (rounded (full_size size)) (subst (λ (k : ℕ). IsSome (slot_at p.shelf.entries k)) key_is (held_live z name h))
         (λ n key.
         (let same = held_name z name h n (key ∙ ap (λ (k : ℕ). Some k) (sym key_is)) in
+        let some : is_some (get w.names name) ≡ true = subst (λ (k : ℕ). is_some (get w.names k) ≡ true) (sym same) (there n y.id.key key) in
         let sized : size_of (get behind_it.names name) ≡ full_size size =
-        ap (λ (m : Map Segment). size_of (get m name)) names
-        ∙ (ap size_of (at_same name (sized_to (full_size size)) before_it.names)
-        ∙ size_there (full_size size) (get before_it.names name) (still_there name (subst (λ (k : ℕ). is_some (get w.names k) ≡ true) (sym same) (there n y.id.key key)))) in
+        ap (λ (m : Map Segment). size_of (get m name)) names ∙ sized_there name (full_size size) some l.marks.discarded in
         let sized_n : size_of (get behind_it.names n) ≡ full_size size = subst (λ (k : ℕ). size_of (get behind_it.names k) ≡ full_size size) same sized in
-        counted_larger (counts w.names behind_it.names list n) (rounded (full_size size)) (larger w.names behind_it.names n) (counted n key)
-        (grown (size_of (get w.names n)) (size_of (get behind_it.names n)) (full_size size) sized_n)))
-      where
-        held_is : {q r : HeldThere} → Some q ≡ Some r → q ≡ r
-        held_is e = cc
-
-        grown : (old now size : ℕ) → now ≡ size → rounded size ≤ whole (max old now)
-        grown old now size e = omega (arith, e)
+        let taken = now n in
+        counted_larger (counts w.names behind_it.names list n) (rounded (full_size size)) (g n) (counted n key)
+        (omega (arith, sized_n, taken))))
 
     -- a member of a run that gets a size, and counts
     pub run_over : (y : HugeArguments) → a.request ≡ Huge y → (id : SegId) (size : ℕ) (rest : List Change) → IsSome (entry_of p.shelf id)
         → (huge_ruling y (known_of s w) pid x.cpu).changes ≡ Resizes id.age size ∷ rest → ((n : ℕ) → key_of p.shelf n ≡ Some id.key → counts w.names behind_it.names list n ≡ true)
-        → over (λ k. if k == id.key then rounded size else base k) (length p.shelf.entries) ≤ room_between w.names behind_it.names list
+        → ((n : ℕ) → key_of p.shelf n ≡ Some id.key → whole (size_of (get w.names n)) ≤ g n)
+        → over (λ k. if k == id.key then rounded size else base k) (length p.shelf.entries) ≤ sum_by g w.names behind_it.names list
     unfolding with_changes
-    run_over y is id size rest alive first counted =
-        top_least p w next.lawful next.stands behind_it.names list base least id.key (rounded size) (live_id p.shelf id alive).0
+    run_over y is id size rest alive first counted was =
+        top_least p w next.lawful next.stands behind_it.names list g base least id.key (rounded size) (live_id p.shelf id alive).0
         (λ n key.
-        counted_larger (counts w.names behind_it.names list n) (rounded size) (larger w.names behind_it.names n) (counted n key)
-        (subst (λ (m : ℕ). rounded size ≤ larger w.names behind_it.names m) (name_is n key) (seen (subst (λ (m : ℕ). is_some (get w.names m) ≡ true) (sym (name_is n key)) (there n id.key key)))))
+        counted_larger (counts w.names behind_it.names list n) (rounded size) (g n) (counted n key)
+        (subst (λ (m : ℕ). rounded size ≤ g m) (name_is n key) (seen (subst (λ (m : ℕ). is_some (get w.names m) ≡ true) (sym (name_is n key)) (there n id.key key))
+        (subst (λ (m : ℕ). whole (size_of (get w.names m)) ≤ g m) (sym (name_is n key)) (was n key)))))
       where
         name_is : (n : ℕ) → key_of p.shelf n ≡ Some id.key → id.age ≡ n
         name_is n key = sym (age_is p.shelf id alive) ∙ (facts n id.key key).2
@@ -446,17 +504,11 @@ module _ (p : Parts) (s : Setting) (w : World) (x : Process) (next : IsNext p s 
         changes : List Change
         changes = Resizes id.age size ∷ rest
 
-        by_old : (old now : ℕ) → size ≤ old → rounded size ≤ whole (max old now)
-        by_old old now l = omega (arith, l)
-
-        by_new : (old now : ℕ) → size ≤ now → rounded size ≤ whole (max old now)
-        by_new old now l = omega (arith, l)
-
         names : behind_it.names ≡ (with_all before_it changes).names
         names = names_are changes (run_changes_are p s w x next live sound a following call y is ∙ first)
 
-        seen : is_some (get w.names id.age) ≡ true → rounded size ≤ larger w.names behind_it.names id.age
-        seen some = by (subst (IsSizing w.names) first (run_sizing p s w x next live sound a following call y))
+        seen : is_some (get w.names id.age) ≡ true → whole (size_of (get w.names id.age)) ≤ g id.age → rounded size ≤ g id.age
+        seen some old = by (subst (IsSizing w.names) first (run_sizing p s w x next live sound a following call y))
           where
             sized : World
             sized = with_change before_it (Resizes id.age size)
@@ -464,20 +516,21 @@ module _ (p : Parts) (s : Setting) (w : World) (x : Process) (next : IsNext p s 
             size_now : size_of (get sized.names id.age) ≡ size
             size_now = ap size_of (at_same id.age (sized_to size) before_it.names) ∙ size_there size (get before_it.names id.age) (still_there id.age some)
 
-            by : IsSizing w.names changes → rounded size ≤ larger w.names behind_it.names id.age
-            by (Cut are) = by_old (size_of (get w.names id.age)) (size_of (get behind_it.names id.age)) are.0
+            by : IsSizing w.names changes → rounded size ≤ g id.age
+            by (Cut are) = (let less = are.0 in omega (arith, less, old))
             by (Grown z are) =
                 (let e = are.0.0 in
-                let now = size_now in
-                let floor = has_floor w.names z rest are.1 sized id.age (sound.tied.below id.age some) (omega (arith, e, now)) in
+                let first = size_now in
+                let floor = has_floor w.names z rest are.1 sized id.age (sound.tied.below id.age some) (omega (arith, e, first)) in
                 let last : (with_all before_it changes).names ≡ (with_changes sized rest).names =
                 ap (λ (q : World). q.names) (cond-false (list_any takes changes) (swept (with_changes before_it changes)) (with_changes before_it changes) (grown_takes w.names z changes are)) in
                 let same = ap (λ (m : Map Segment). size_of (get m id.age)) (names ∙ last) in
-                by_new (size_of (get w.names id.age)) (size_of (get behind_it.names id.age)) (omega (arith, e, floor, same)))
+                let taken = now id.age in
+                omega (arith, e, floor, same, taken))
 
     -- a new segment that is locked
     pub make_over : (size flags : ℕ) → a.request ≡ Alloc size flags → (allocation (known_of s w) pid size flags).error ≡ 0 → MayStop (Alloc size flags)
-        → over base (length p.shelf.entries) + rounded (full_size size) ≤ room_between w.names behind_it.names list
+        → over base (length p.shelf.entries) + rounded (full_size size) ≤ sum_by g w.names behind_it.names list
     unfolding with_changes
     make_over size flags is none may =
         let l = make_is (known_of s w) pid size flags none in
@@ -485,10 +538,7 @@ module _ (p : Parts) (s : Setting) (w : World) (x : Process) (next : IsNext p s 
         let got : get behind_it.names w.next_name ≡ Some (made_segment size flags) = ap (λ (m : Map Segment). get m w.next_name) names ∙ put_same w.next_name (made_segment size flags) before_it.names in
         let locked : is_locked (get behind_it.names w.next_name) ≡ true = ap is_locked got ∙ ap (λ (t : Bool). nat_lt 0 (if t then 1 else 0)) may in
         let size_new : size_of (get behind_it.names w.next_name) ≡ full_size size = ap size_of got ∙ length-replicate (full_size size) 0 in
-        new_least p w next.lawful next.stands behind_it.names list base least w.next_name (rounded (full_size size)) (new p s w x next live sound a following call) (ap is_some got)
-        (counted_larger (counts w.names behind_it.names list w.next_name) (rounded (full_size size)) (larger w.names behind_it.names w.next_name)
+        new_least p w next.lawful next.stands behind_it.names list g base least w.next_name (rounded (full_size size)) (new p s w x next live sound a following call) (ap is_some got)
+        (counted_larger (counts w.names behind_it.names list w.next_name) (rounded (full_size size)) (g w.next_name)
         (or_back (is_in w.next_name list) _ (or_back (is_locked (get w.names w.next_name)) (is_locked (get behind_it.names w.next_name)) locked))
-        (grown (size_of (get w.names w.next_name)) (size_of (get behind_it.names w.next_name)) (full_size size) size_new))
-      where
-        grown : (old now size : ℕ) → now ≡ size → rounded size ≤ whole (max old now)
-        grown old now size e = omega (arith, e)
+        (let taken = now w.next_name in omega (arith, size_new, taken)))

@@ -145,7 +145,7 @@ writable_reads access e = grind arith
 hold_is : {a b : Hold} → Some a ≡ Some b → a ≡ b
 hold_is e = cc
 
-is_es : (v : View) (z : ℕ) (h : Hold) → ((n : ℕ) → v.discarded n ≡ false) → bound_in v.held z ≡ Some h → is_writable h.rights ≡ true → is_for_es v z ≡ true
+is_es : (v : View) (z : ℕ) (h : Hold) → v.discarded h.name ≡ false → bound_in v.held z ≡ Some h → is_writable h.rights ≡ true → is_for_es v z ≡ true
 unfolding probe_of
 is_es v z h kept bound good = go (is_null z) (found v z) bound
   where
@@ -159,7 +159,7 @@ is_es v z h kept bound good = go (is_null z) (found v z) bound
     go true o e = refl
     go false None e = absurd (none_some e)
     go false (Some y) e =
-        passes (is_readable y.rights) (v.discarded y.name) (v.present y.name) (ap (λ (x : Hold). is_readable x.rights) (hold_is e) ∙ writable_reads h.rights good) (kept y.name)
+        passes (is_readable y.rights) (v.discarded y.name) (v.present y.name) (ap (λ (x : Hold). is_readable x.rights) (hold_is e) ∙ writable_reads h.rights good) (ap (λ (x : Hold). v.discarded x.name) (hold_is e) ∙ kept)
 
 -- What the registers and the pointer of a call name.
 
@@ -207,12 +207,12 @@ module _ (s : Shelf) (m : Maps) (pid : ℕ) (c : Cpu) where
   first_or_later : (first later : List (SegId × ℕ)) (n : ℕ) → is_in n (ages_of (first ++ later)) ≡ true → (is_in n (ages_of first) ≡ true) ⊎ (is_in n (ages_of later) ≡ true)
   first_or_later first later n e = one_of (is_in n (ages_of first)) (is_in n (ages_of later)) (sym (both_in n (ages_of first) (ages_of later)) ∙ (ap (is_in n) (sym (ages_both first later)) ∙ e))
 
-  module _ (v : View) (held : v.held ≡ hold_in m pid) (kept : (n : ℕ) → v.discarded n ≡ false) where
+  module _ (v : View) (held : v.held ≡ hold_in m pid) (kept : (n : ℕ) → present_in s n ≡ true → v.discarded n ≡ false) where
     aimed_passes : (z o count n : ℕ) → (count == 0) ≡ false → IsAimed is_writable z n → is_in n (pointed v (pointer true z o count ∷ [])) ≡ true
     aimed_passes z o count n some x =
         subst (λ (b : Bool). is_in n (if b then [] else passed v (bound_in v.held z) (pointer true z o count) []) ≡ true) (sym some)
         (subst (λ (q : Option Hold). is_in n (passed v q (pointer true z o count) []) ≡ true) (sym bound)
-        (pass (is_for_es v z) (is_writable x.hold.rights && nat_le (o + count) (length (v.bytes x.hold.name))) (is_es v z x.hold kept bound x.rights)))
+        (pass (is_for_es v z) (is_writable x.hold.rights && nat_le (o + count) (length (v.bytes x.hold.name))) (is_es v z x.hold (kept x.hold.name x.present) bound x.rights)))
       where
         bound : bound_in v.held z ≡ Some x.hold
         bound = ap (λ (f : ℕ → Option Hold). bound_in f z) held ∙ x.bound
@@ -260,6 +260,7 @@ module _ (s : Shelf) (m : Maps) (pid : ℕ) (c : Cpu) where
         go (Huge (huge.Realloc segs part z)) service same may = by_number (Huge (huge.Realloc segs part z)) service 17 same none_passes
         go (Huge huge.Shift) service same may = absurd may
 
+  module _ (v : View) (held : v.held ≡ hold_in m pid) where
     -- the segment that a selector names
     named_for : (z n : ℕ) → is_in n (name_in (bound_in v.held z)) ≡ true → is_in n (ages_of (pair_of (held_under m pid z))) ≡ true
     named_for z n e =

@@ -14,6 +14,7 @@ pub mod Making
 pub mod Replied
 pub mod Sides
 pub mod RunSizing
+pub mod Anew
 pub mod Remains
 pub mod Seats
 pub mod Keeps
@@ -26,3 +27,5 @@ pub mod Framing
 pub mod Spelling
 pub mod Beginning
 pub mod SpelledCalls
+pub mod Wording
+pub mod Seating

@@ -15,7 +15,7 @@ use Rattle.o2_world.specs.Run.{before, next_dispatch}
 use Rattle.o2_world.specs.World.{Process, Setting, World}
 use Rattle.o2_stands.specs.Parts.{Parts}
 use Rattle.o2_stepping.specs.Nexts.{IsNext}
-use Rattle.o2_stepping.specs.Rooms.{all_names, needed_names, room_in}
+use Rattle.o2_stepping.specs.Rooms.{all_names, needed_names, room_in, whole_names}
 use Rattle.o2_stepping.specs.Taken.{OnBegun, OnStep, OnSwapStop, Takes}
 use Rattle.o2_stepping.specs.declared.one_step.Stepped.{Stepped}
 use Rattle.o2_stepping.specs.declared.one_step.Stepped.TheVariants as stepped
@@ -33,7 +33,7 @@ module _ (p : Parts) (s : Setting) (w : World) (x : Process) (next : IsNext p s 
       Takes (starts_at n) (effect (starts_at n)) cpu old new i j c d r u result
       → OnStep result (λ z. room_in p.shelf (all_names (starts_at n) (bound_registers (hold_in p.maps n) z)) ≤ p.shelf.places.size) (effect (starts_at n)).cpu (starts_at n).cpu
       → OnBegun result (room_in p.shelf (all_names (starts_at n) (bound_registers (hold_in p.maps n) (starts_at n).cpu)) ≤ p.shelf.places.size)
-      → OnSwapStop result (p.shelf.places.size < room_in p.shelf (needed_names (starts_at n))) (Unit {0}) (Unit {0})
+      → OnSwapStop result (p.shelf.places.size < room_in p.shelf (whole_names p.shelf (needed_names (starts_at n)))) (Unit {0}) (Unit {0})
       → OnSwapStop result (Unit {0}) ((all_of p.shelf.swap < swap_load p.shelf) × (p.shelf.places.size < live_load p.shelf)) (Unit {0})
       → SaysStep p.device s w result
 
@@ -43,7 +43,7 @@ module _ (p : Parts) (s : Setting) (w : World) (x : Process) (next : IsNext p s 
   at_current (Err fault.Sink) = λ takes done part more stops. fits_in_part p s w x next p.maps x.cpu (holds_refl p.maps) refl takes.selectors takes.changes part
   at_current (Err (fault.Stopped stop.Input)) = λ takes done part more stops. (let q = reads_quietly (starts_at (next_dispatch s w).current) takes.cause in fits_in_part p s w x next p.maps x.cpu (holds_refl p.maps) refl q.selectors q.changes part)
   at_current (Err (fault.Stopped stop.NoRoom)) = λ takes done part more stops. lacks p s w x next more
-  at_current (Err (fault.Stopped stop.SwapFull)) = λ takes done part more stops. full p s w next.lawful next.set next.stands stops
+  at_current (Err (fault.Stopped stop.SwapFull)) = λ takes done part more stops. full p s w next.lawful next.set next.stands next.wordless stops
   at_current (Err (fault.Stopped stop.SwapFault)) = λ takes done part more stops. tt
 
   pub says_room : (result : Result Stepped Fault) (n : ℕ) → n ≡ (next_dispatch s w).current → Says result n

@@ -1,31 +1,32 @@
 -- What a call on segments leaves of the names before it: none of them grows or gets a lock, or none goes, shrinks or loses its lock.
-use Rattle.std.proofs.Common.{◌≡◌, inl, inr, ℕ, ◌-◌, ◌≤◌, Bool, true, false, List, [], ◌∷◌, ◌++◌, length, map, Option, Some, None, is_some, option_map, ap, sym, ◌∙◌, refl, subst, arith, if◌then◌else◌}
+-- One that was discarded has no size before.
+use Rattle.std.proofs.Common.{◌≡◌, ◌≢◌, inl, inr, ℕ, ◌-◌, ◌≤◌, Bool, true, false, List, [], ◌∷◌, ◌++◌, length, map, Option, Some, None, is_some, option_map, ap, sym, ◌∙◌, refl, subst, arith, if◌then◌else◌}
 use Rattle.std.specs.Prelude.{◌==◌, nat_lt, replicate, take}
 use Rattle.std.specs.List.{list_any}
-use Rattle.std.proofs.lemmas.Bool.{cases_lt, cond-false, eqb-true, false≢true}
+use Rattle.std.proofs.lemmas.Bool.{cases_eq, cases_lt, cond-false, eqb-true, false≢true, ne_eqb}
 use Rattle.std.proofs.lemmas.List.{length-append, length-replicate, length-take}
 use Rattle.o2_conf.specs.Dispatch.{Dispatch}
 use Rattle.o2_isa.specs.declared.cpu.Cpu.{Cpu}
-use Rattle.o2_run.specs.Room.{is_locked, size_of}
+use Rattle.o2_run.specs.Room.{is_locked, kept_size, size_of}
 use Rattle.o2_world.specs.CallParts.{Before, Effect}
-use Rattle.o2_world.specs.Changes.{Change, Drops, Finishes, Frees, Holds, Locks, Makes, Marks, Names, Reserves, Resizes, resized, swept, takes, with_all, with_change, with_changes}
+use Rattle.o2_world.specs.Changes.{Change, Drops, Finishes, Frees, Holds, Locks, Makes, Marks, Names, Reserves, Resizes, marked, resized, swept, takes, with_all, with_change, with_changes}
 use Rattle.o2_world.specs.Holders.{is_held}
 use Rattle.o2_world.specs.Map.{Map, at_key, get}
 use Rattle.o2_world.specs.HugeRulings.{huge_allocation, huge_reallocation}
-use Rattle.o2_world.specs.Moves.{AllMoves, AreOfRuling, Moves, NoneMoves, OfAllocation, OfNone, OfReallocation, OneAliased, OneLocked, OneMade, OneNamed, OneRun, OneSized, OwnMoves, SomeFreed, SomeShared}
+use Rattle.o2_world.specs.Moves.{AllMoves, AreOfRuling, Moves, NoneMoves, OfAllocation, OfNone, OfReallocation, OneAliased, OneLocked, OneMade, OneNamed, OneRemade, OneRun, OneSized, OwnMoves, SomeFreed, SomeShared}
 use Rattle.o2_world.specs.Rulings.{full_size, made_segment}
 use Rattle.o2_world.specs.Run.{worked}
 use Rattle.o2_world.specs.Known.{Known}
 use Rattle.o2_world.specs.SharedRulings.{each_more, one_more, shared_segment}
 use Rattle.o2_world.specs.World.{ByCall, Held, Process, Segment, World}
 use Rattle.o2_world.proofs.MapLemmas.{get-at_key, get-filter, get-map}
-use Rattle.o2_stepping.proofs.NextRooms.{IsLess, less_kept}
+use Rattle.o2_stepping.proofs.NextRooms.{IsLess, kept_less, less_kept}
 use Rattle.o2_space.proofs.RunSizing.{AllAre, Cut, Grown, IsCutBy, IsGrownBy, IsSizing, grown_takes}
 
--- a name is there still, as large and as locked at least
+-- a name is there still, as large and as locked at least; one that was discarded had no size
 pub record IsMore (v o : Option Segment) : Type 0 where
   pub some : is_some o ≡ true → is_some v ≡ true
-  pub size : size_of o ≤ size_of v
+  pub size : kept_size o ≤ size_of v
   pub lock : is_locked o ≡ true → is_locked v ≡ true
 
 pub data Remains (old new : Map Segment) : Type 0 where
@@ -51,13 +52,13 @@ less_as : (v o : Option Segment) → IsAs v o → IsLess v o
 less_as v o a = record { none = none_by v o a.some; size = (let z = a.size in omega (arith, z)); lock = λ e. sym a.lock ∙ e }
 
 more_as : (v o : Option Segment) → IsAs v o → IsMore v o
-more_as v o a = record { some = λ e. a.some ∙ e; size = (let z = a.size in omega (arith, z)); lock = λ e. a.lock ∙ e }
+more_as v o a = record { some = λ e. a.some ∙ e; size = (let z = a.size in let k = kept_less o in omega (arith, z, k)); lock = λ e. a.lock ∙ e }
 
 -- a name that wasn't there
 more_new : (v o : Option Segment) → o ≡ None → IsMore v o
 more_new v o none = record {
   some = λ e. absurd (false≢true (sym (ap is_some none) ∙ e));
-  size = (let z : size_of o ≡ 0 = ap size_of none in omega (arith, z));
+  size = (let z : kept_size o ≡ 0 = ap kept_size none in omega (arith, z));
   lock = λ e. absurd (false≢true (sym (ap is_locked none) ∙ e));
 }
 
@@ -76,7 +77,7 @@ lock_less count (Some s) o none a = record {
 
 lock_more : (count : ℕ) (v o : Option Segment) → nat_lt 0 count ≡ true → IsAs v o → IsMore (option_map (λ (s : Segment). record s { lock = count }) v) o
 lock_more count None o some a = more_as None o a
-lock_more count (Some s) o some a = record { some = λ e. refl; size = (let z = a.size in omega (arith, z)); lock = λ e. some }
+lock_more count (Some s) o some a = record { some = λ e. refl; size = (let z = a.size in let k = kept_less o in omega (arith, z, k)); lock = λ e. some }
 
 pub resized_size : (size : ℕ) (bytes : List ℕ) → length (resized size bytes) ≡ size
 resized_size size bytes =
@@ -97,7 +98,7 @@ size_more : (size : ℕ) (v o : Option Segment) → size_of o ≤ size → IsAs 
 size_more size None o l a = more_as None o a
 size_more size (Some s) o l a = record {
   some = λ e. refl;
-  size = (let z = resized_size size s.bytes in omega (arith, z, l));
+  size = (let z = resized_size size s.bytes in let k = kept_less o in omega (arith, z, l, k));
   lock = λ e. a.lock ∙ e;
 }
 
@@ -114,7 +115,7 @@ more_sized : (size : ℕ) (v o : Option Segment) → size_of o ≤ size → IsMo
 more_sized size None o l a = a
 more_sized size (Some s) o l a = record {
   some = λ e. refl;
-  size = (let z = resized_size size s.bytes in omega (arith, z, l));
+  size = (let z = resized_size size s.bytes in let k = kept_less o in omega (arith, z, l, k));
   lock = a.lock;
 }
 
@@ -123,6 +124,27 @@ locked_to count s = record s { lock = count }
 
 abbrev pub sized_to : ℕ → Segment → Segment
 sized_to size s = record s { bytes = resized size s.bytes }
+
+-- one that was discarded, made anew
+remade_more : (size : ℕ) (v o : Option Segment) → kept_size o ≡ 0 → IsAs v o → IsMore (option_map (locked_to 1) (option_map (sized_to size) (option_map (marked false) v))) o
+remade_more size None o none a = more_as None o a
+remade_more size (Some s) o none a = record { some = λ e. refl; size = omega (arith, none); lock = λ e. refl }
+
+pub at_same : (n : ℕ) (f : Segment → Segment) (m : Map Segment) → get (at_key n f m) n ≡ option_map f (get m n)
+at_same n f m = get-at_key n n f m ∙ ap (λ (t : Bool). if t then option_map f (get m n) else get m n) (equal n)
+  where
+    equal : (k : ℕ) → (k == k) ≡ true
+    equal k = grind arith
+
+at_other : (k n : ℕ) (f : Segment → Segment) (m : Map Segment) → k ≢ n → get (at_key k f m) n ≡ get m n
+at_other k n f m other = get-at_key k n f m ∙ ap (λ (t : Bool). if t then option_map f (get m k) else get m n) (ne_eqb k n other)
+
+-- one that is made anew
+pub at_thrice : (n size : ℕ) (m : Map Segment)
+    → get (at_key n (locked_to 1) (at_key n (sized_to size) (at_key n (marked false) m))) n ≡ option_map (locked_to 1) (option_map (sized_to size) (option_map (marked false) (get m n)))
+at_thrice n size m =
+    at_same n (locked_to 1) (at_key n (sized_to size) (at_key n (marked false) m))
+    ∙ ap (option_map (locked_to 1)) (at_same n (sized_to size) (at_key n (marked false) m) ∙ ap (option_map (sized_to size)) (at_same n (marked false) m))
 
 -- a segment changed in its place
 pub by_key : (P : Option Segment → Type 0) (k q : ℕ) (f : Segment → Segment) (m : Map Segment) → (k ≡ q → P (option_map f (get m q))) → P (get m q) → P (get (at_key k f m) q)
@@ -167,6 +189,9 @@ module _ (w : World) (d : Dispatch) (x : Process) (e : Effect) (sizes : (n : ℕ
   pub written_some : (n : ℕ) → is_some (get u.names n) ≡ is_some (get w.names n)
   written_some n = (written n).some
 
+  pub written_size : (n : ℕ) → size_of (get u.names n) ≡ size_of (get w.names n)
+  written_size n = (written n).size
+
   abbrev dropped : ℕ → List ℕ → World
   dropped p is = with_changes u (map (λ (i : ℕ). Drops p i 1) is)
 
@@ -210,17 +235,38 @@ module _ (w : World) (d : Dispatch) (x : Process) (e : Effect) (sizes : (n : ℕ
         (more_as (get u.names n) (get w.names n) (written n)))
   ]
 
+  -- what is discarded, made anew
+  abbrev remade_names : (name size : ℕ) → Map Segment
+  remade_names name size = at_key name (locked_to 1) (at_key name (sized_to size) (at_key name (marked false) u.names))
+
+  remade : (name size : ℕ) → kept_size (get w.names name) ≡ 0 → (n : ℕ) → IsMore (get (remade_names name size) n) (get w.names n)
+  remade name size none n = elim (cases_eq name n) [
+    | inl same ↦ subst (λ (k : ℕ). IsMore (get (remade_names name size) k) (get w.names k)) same
+        (subst (λ (o : Option Segment). IsMore o (get w.names name)) (sym (at_thrice name size u.names)) (remade_more size (get u.names name) (get w.names name) none (written name)))
+    | inr other ↦ subst (λ (o : Option Segment). IsMore o (get w.names n)) (sym (there other)) (more_as (get u.names n) (get w.names n) (written n))
+  ]
+    where
+      there : name ≢ n → get (remade_names name size) n ≡ get u.names n
+      there other =
+          at_other name n (locked_to 1) (at_key name (sized_to size) (at_key name (marked false) u.names)) other
+          ∙ (at_other name n (sized_to size) (at_key name (marked false) u.names) other ∙ at_other name n (marked false) u.names other)
+
   abbrev Left : List Change → Type 0
   Left cs = Remains w.names (with_all u cs).names
 
-  remains : (b : Before) (cpu : Cpu) (cs : List Change) → Moves b cpu cs → Left cs
+  -- what a call makes anew was discarded
+  abbrev MakesAnew : List Change → Type 0
+  MakesAnew cs = (name size : ℕ) → cs ≡ Marks name false ∷ Resizes name size ∷ Locks name 1 ∷ [] → kept_size (get w.names name) ≡ 0
+
+  remains : (b : Before) (cpu : Cpu) (cs : List Change) → MakesAnew cs → Moves b cpu cs → Left cs
   unfolding with_changes
-  remains b cpu cs (NoneMoves is) = subst Left (sym is) (NoneMore (λ n. less_as (get u.names n) (get w.names n) (written n)))
-  remains b cpu cs (OneMade size flags i free is) = subst Left (sym is) (NoneLess (made (made_segment size flags)))
-  remains b cpu cs (OneSized name size alone is) = subst Left (sym is) (sized name (full_size size))
-  remains b cpu cs (OneLocked name count is) = subst Left (sym is) (locked name count)
-  remains b cpu cs (OneAliased index i h there alone free is) = subst Left (sym is) (NoneMore (λ n. less_as (get u.names n) (get w.names n) (written n)))
-  remains b cpu cs (SomeFreed xs frees is) = subst Left (sym is) (NoneMore (freed b.number xs))
+  remains b cpu cs anew (NoneMoves is) = subst Left (sym is) (NoneMore (λ n. less_as (get u.names n) (get w.names n) (written n)))
+  remains b cpu cs anew (OneMade size flags i free is) = subst Left (sym is) (NoneLess (made (made_segment size flags)))
+  remains b cpu cs anew (OneSized name size alone is) = subst Left (sym is) (sized name (full_size size))
+  remains b cpu cs anew (OneRemade name size alone is) = subst Left (sym is) (NoneLess (remade name (full_size size) (anew name (full_size size) is)))
+  remains b cpu cs anew (OneLocked name count lockable is) = subst Left (sym is) (locked name count)
+  remains b cpu cs anew (OneAliased index i h there alone free is) = subst Left (sym is) (NoneMore (λ n. less_as (get u.names n) (get w.names n) (written n)))
+  remains b cpu cs anew (SomeFreed xs frees is) = subst Left (sym is) (NoneMore (freed b.number xs))
 
   -- where a process holds more of what is shared
   shared : (k : Known) (from to : ℕ) (is : List ℕ) → Left (each_more k from to is)
@@ -295,9 +341,9 @@ module _ (w : World) (d : Dispatch) (x : Process) (e : Effect) (sizes : (n : ℕ
     run_remains b sizes cs (OfAllocation segs part most flags is) = subst Left (sym is) (sizing_remains _ (sizes.made segs part most flags))
     run_remains b sizes cs (OfReallocation segs part selector is) = subst Left (sym is) (sizing_remains _ (sizes.sized segs part selector))
 
-    pub all_remains : (b : Before) → SizesRuns w.names b → (cpu : Cpu) (cs : List Change) → AllMoves b cpu cs → Left cs
+    pub all_remains : (b : Before) → SizesRuns w.names b → (cpu : Cpu) (cs : List Change) → MakesAnew cs → AllMoves b cpu cs → Left cs
     unfolding with_changes
-    all_remains b sizes cpu cs (OwnMoves moves) = remains b cpu cs moves
-    all_remains b sizes cpu cs (OneNamed size i name free is) = subst Left (sym is) (NoneLess (made (shared_segment size)))
-    all_remains b sizes cpu cs (SomeShared from to xs shares is) = subst Left (sym is) (shared b.known from to xs)
-    all_remains b sizes cpu cs (OneRun moves ruled) = run_remains b sizes cs ruled
+    all_remains b sizes cpu cs anew (OwnMoves moves) = remains b cpu cs anew moves
+    all_remains b sizes cpu cs anew (OneNamed size i name free is) = subst Left (sym is) (NoneLess (made (shared_segment size)))
+    all_remains b sizes cpu cs anew (SomeShared from to xs shares is) = subst Left (sym is) (shared b.known from to xs)
+    all_remains b sizes cpu cs anew (OneRun moves ruled) = run_remains b sizes cs ruled

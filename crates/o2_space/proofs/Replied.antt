@@ -36,6 +36,7 @@ use Rattle.o2_stands.specs.Parts.{Parts, Running, running_of}
 use Rattle.o2_stands.specs.Stands.{IsTidy, Matches, StandsIn}
 use Rattle.o2_stands.proofs.Matching.{stood_by}
 use Rattle.o2_stands.proofs.TidySteps.{acted_tidy}
+use Rattle.o2_run.specs.Pieces.{FailsInLine}
 use Rattle.o2_stepping.specs.Ran.{TakesText}
 use Rattle.o2_stepping.specs.Replied.{state_behind, trap_lines}
 use Rattle.o2_stepping.specs.declared.one_step.Ran.{Ran}
@@ -155,6 +156,21 @@ module _ (s : Setting) (w : World) (x : Process) (pid : ℕ) (a : Arguments) (ne
         to_console = gains_none c;
         to_report = subst (λ (l : List Line). TakesText ran.whole r q (lines_text l)) (with_trap dead) told.report;
       })
+
+  -- which line failed
+  pub late_live : is_live ran.state ≡ true → (before now : ℕ) → FailsInLine (lines ++ trap_lines pid registers) r q before now → FailsInLine (effect b).lines r q before now
+  late_live live before now h =
+      subst (λ (f : Effect). FailsInLine f.lines r q before now) (sym (live_effect live)) (subst (λ (l : List Line). FailsInLine l r q before now) (no_trap live) h)
+
+  pub none_live : is_live ran.state ≡ true → length (effect b).piece ≡ 0
+  none_live live = ap (λ (f : Effect). length f.piece) (live_effect live)
+
+  pub late_trapped : is_live ran.state ≡ false → (before now : ℕ) → FailsInLine (lines ++ trap_lines pid registers) r q before now → FailsInLine (effect b).lines r q before now
+  late_trapped dead before now h =
+      subst (λ (f : Effect). FailsInLine f.lines r q before now) (sym (dead_effect dead)) (subst (λ (l : List Line). FailsInLine l r q before now) (with_trap dead) h)
+
+  pub none_trapped : is_live ran.state ≡ false → length (effect b).piece ≡ 0
+  none_trapped dead = ap (λ (f : Effect). length f.piece) (dead_effect dead)
 
   -- the names that are kept, where they are those behind the call
 

@@ -15,7 +15,7 @@ use Rattle.o2_world.specs.Holders.{process_at}
 use Rattle.o2_world.specs.HugeRulings.{all_dropped, all_hold, dropped_members, new_members, resized_members, resized_one, run_reserve}
 use Rattle.o2_world.specs.Known.{Known, Marks as SegmentMarks, held_at}
 use Rattle.o2_world.specs.Map.{get, put}
-use Rattle.o2_world.specs.Moves.{AllMoves, Moves, NoneMoves, NoRun, OneAliased, OneLocked, OneMade, OneNamed, OneRun, OneSized, OwnMoves, RunMade, RunMoves, RunSized, SomeFreed, SomeShared}
+use Rattle.o2_world.specs.Moves.{AllMoves, Moves, NoneMoves, NoRun, OneAliased, OneLocked, OneMade, OneNamed, OneRemade, OneRun, OneSized, OwnMoves, RunMade, RunMoves, RunSized, SomeFreed, SomeShared}
 use Rattle.o2_world.specs.Rulings.{full_size, held_as_code, held_by_call}
 use Rattle.o2_world.specs.SharedRulings.{each_more, marks_under, one_more}
 use Rattle.o2_world.specs.Sound.{HasGoodRegisters, NamesHeld, has_rights, held_of}
@@ -275,7 +275,8 @@ module _ (u : World) (b : Before) (x : Process) (at : process_at u.processes b.n
   names_kept cpu cs (NoneMoves is) = subst Kept (sym is) (same_names _ _ (λ i. refl))
   names_kept cpu cs (OneMade size flags i free is) = subst Kept (sym is) (holds_names u.processes b.number x at i (held_by_call b.known.next))
   names_kept cpu cs (OneSized name size alone is) = subst Kept (sym is) (same_names _ _ (λ i. refl))
-  names_kept cpu cs (OneLocked name count is) = subst Kept (sym is) (same_names _ _ (λ i. refl))
+  names_kept cpu cs (OneRemade name size alone is) = subst Kept (sym is) (same_names _ _ (λ i. refl))
+  names_kept cpu cs (OneLocked name count lockable is) = subst Kept (sym is) (same_names _ _ (λ i. refl))
   names_kept cpu cs (OneAliased index i h there alone free is) = subst Kept (sym is) (holds_names u.processes b.number x at i (held_as_code h.name))
   names_kept cpu cs (SomeFreed xs frees is) = subst Kept (sym is) (freed xs)
 

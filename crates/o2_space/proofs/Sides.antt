@@ -1,20 +1,23 @@
--- The room between two worlds is the same from either side, and grows with a name that is new.
-use Rattle.std.proofs.Common.{◌≡◌, ◌⊎◌, inl, inr, ℕ, ◌+◌, ◌<◌, ◌≤◌, Bool, true, false, cond, not, ◌||◌, ◌&&◌, List, [], ◌∷◌, ◌++◌, length, map, Option, Some, None, is_some, ap, sym, ◌∙◌, refl, subst, arith, if◌then◌else◌}
+-- The room between two worlds is no less from behind, where what counts isn't discarded there, and grows with a name that is new.
+use Rattle.std.proofs.Common.{◌≡◌, ◌⊎◌, inl, inr, ℕ, ◌+◌, ◌<◌, ◌≤◌, Bool, true, false, cond, not, ◌||◌, ◌&&◌, List, [], ◌∷◌, ◌++◌, length, map, Option, Some, None, is_some, option_map, ap, sym, ◌∙◌, refl, subst, arith, if◌then◌else◌}
+use mathlib.Core.Path.{fun_ext}
 use Rattle.std.specs.Prelude.{◌==◌, filter, max, sum}
 use Rattle.std.proofs.lemmas.Bool.{false≢true, eqb-true}
 use Rattle.std.proofs.lemmas.List.Sums.{sum_by-cons}
 use Rattle.o2_entries.specs.declared.Entry.{Entry}
 use Rattle.o2_entries.specs.Tables.{slot_at}
 use Rattle.o2_place.specs.Layout.{over}
-use Rattle.o2_place.proofs.Sums.{over-add, over-le, over-same}
-use Rattle.o2_run.specs.Room.{is_in, is_locked, larger, load_between, numbers, of_both, room_between, rounded as whole, size_of}
+use Rattle.o2_place.proofs.Sums.{over-add, over-le}
+use Rattle.o2_run.specs.Room.{is_in, is_locked, kept_size, larger, load_between, needs as takes, numbers, of_both, room_between, rounded as whole, size_of}
 use Rattle.o2_segbus.proofs.Ages.{aged_key}
+use Rattle.o2_segbus.specs.Seen.{key_of}
 use Rattle.o2_store.specs.Shelf.{Shelf, entry}
 use Rattle.o2_world.specs.Map.{Map, get}
 use Rattle.o2_world.specs.World.{Process, Reserve, Segment}
+use Rattle.o2_world.proofs.MapLemmas.{get-map}
 use Rattle.o2_stands.specs.Parts.{Parts}
 use Rattle.o2_stands.specs.Stands.{AreLawful, AreOnce, StandsIn}
-use Rattle.o2_stands.specs.Sums.{AreAtLeast, counts, part_of}
+use Rattle.o2_stands.specs.Sums.{counts, part_of}
 use Rattle.o2_stands.proofs.Rooms.{found_at, names_sum}
 use Rattle.o2_stands.proofs.Sums.{in_slot, is_number, pairs_sum, picked_sum, val}
 use Rattle.o2_stepping.proofs.Named.{both_in, one_of, or_back, or_front}
@@ -106,19 +109,19 @@ same_counts old new list n = go (is_in n list) (is_locked (get old n)) (is_locke
     go false false true = refl
     go false false false = refl
 
-same_larger : (old new : Map Segment) (n : ℕ) → larger old new n ≡ larger new old n
-same_larger old new n = ap whole (either (size_of (get old n)) (size_of (get new n)))
-  where
-    either : (a b : ℕ) → max a b ≡ max b a
-    either a b = omega arith
+-- a name takes no less from behind
+part_by_tests : (a b : Bool) (n m : ℕ) → a ≡ b → (a ≡ true → n ≤ m) → (if a then n else 0) ≤ (if b then m else 0)
+part_by_tests true true n m e f = f refl
+part_by_tests true false n m e f = absurd (false≢true (sym e))
+part_by_tests false true n m e f = absurd (false≢true e)
+part_by_tests false false n m e f = omega arith
 
-same_part : (old new : Map Segment) (list : List ℕ) (n : ℕ) → part_of old new list n ≡ part_of new old list n
-same_part old new list n =
-    ap (λ (b : Bool). if b then larger old new n else 0) (same_counts old new list n)
-    ∙ ap (λ (k : ℕ). if counts new old list n then k else 0) (same_larger old new n)
+val_less : (a b : ℕ) (o : Option Segment) → a ≤ b → val (λ x. a) o ≤ val (λ x. b) o
+val_less a b None l = omega arith
+val_less a b (Some x) l = l
 
 module _ (old new : Map Segment) (top : ℕ) (once : AreOnce old) (now : AreOnce new) (more : (n : ℕ) → is_some (get old n) ≡ true → is_some (get new n) ≡ true)
-    (below : (n : ℕ) → is_some (get new n) ≡ true → n < top) (list : List ℕ) where
+    (below : (n : ℕ) → is_some (get new n) ≡ true → n < top) (list : List ℕ) (less : (n : ℕ) → counts old new list n ≡ true → takes old new n ≤ takes new old n) where
   abbrev part : ℕ → ℕ
   part = part_of old new list
 
@@ -126,24 +129,24 @@ module _ (old new : Map Segment) (top : ℕ) (once : AreOnce old) (now : AreOnce
   beside n = not (is_in n (numbers old))
 
   abbrev other : ℕ → ℕ
-  other n = if beside n && counts old new list n then larger old new n else 0
+  other n = if beside n && counts old new list n then takes old new n else 0
 
-  first : sum (map (larger old new) (filter (counts old new list) (numbers old))) ≡ over (λ n. val (λ x. part n) (get old n)) top
-  first = picked_sum (larger old new) (counts old new list) old ∙ pairs_sum (λ n x. part n) old top once (λ n s. below n (more n s))
+  first : sum (map (takes old new) (filter (counts old new list) (numbers old))) ≡ over (λ n. val (λ x. part n) (get old n)) top
+  first = picked_sum (takes old new) (counts old new list) old ∙ pairs_sum (λ n x. part n) old top once (λ n s. below n (more n s))
 
-  second : sum (map (larger old new) (filter (counts old new list) (filter beside (numbers new)))) ≡ over (λ n. val (λ x. other n) (get new n)) top
+  second : sum (map (takes old new) (filter (counts old new list) (filter beside (numbers new)))) ≡ over (λ n. val (λ x. other n) (get new n)) top
   second =
-      ap (λ (ns : List ℕ). sum (map (larger old new) ns)) (filter_both (counts old new list) beside (numbers new))
-      ∙ (picked_sum (larger old new) (λ n. beside n && counts old new list n) new
+      ap (λ (ns : List ℕ). sum (map (takes old new) ns)) (filter_both (counts old new list) beside (numbers new))
+      ∙ (picked_sum (takes old new) (λ n. beside n && counts old new list n) new
       ∙ pairs_sum (λ n x. other n) new top now below)
 
   each : (n : ℕ) → val (λ x. part n) (get old n) + val (λ x. other n) (get new n) ≤ val (λ x. part n) (get new n)
   each n = go (get old n) refl (get new n) refl
     where
       none : is_in n (numbers old) ≡ true → other n ≡ 0
-      none e = ap (λ (b : Bool). if not b && counts old new list n then larger old new n else 0) e
+      none e = ap (λ (b : Bool). if not b && counts old new list n then takes old new n else 0) e
 
-      fewer : (b c : Bool) → (if b && c then larger old new n else 0) ≤ (if c then larger old new n else 0)
+      fewer : (b c : Bool) → (if b && c then takes old new n else 0) ≤ (if c then takes old new n else 0)
       fewer true true = omega arith
       fewer true false = omega arith
       fewer false true = omega arith
@@ -158,20 +161,100 @@ module _ (old new : Map Segment) (top : ℕ) (once : AreOnce old) (now : AreOnce
   -- where no name goes
   pub room_from_behind : room_between old new list ≤ room_between new old list
   room_from_behind =
-      let a = both_sum (larger old new) (counts old new list) (numbers old) (filter beside (numbers new)) in
+      let a = both_sum (takes old new) (counts old new list) (numbers old) (filter beside (numbers new)) in
       let s = over-add (λ n. val (λ x. part n) (get old n)) (λ n. val (λ x. other n) (get new n)) top in
       let l = over-le (λ n. val (λ x. part n) (get old n) + val (λ x. other n) (get new n)) (λ n. val (λ x. part n) (get new n)) top (λ n b. each n) in
-      let t = over-same (λ n. val (λ x. part n) (get new n)) (λ n. val (λ x. part_of new old list n) (get new n)) top (λ n b. ap (λ (k : ℕ). val (λ x. k) (get new n)) (same_part old new list n)) in
+      let t = over-le (λ n. val (λ x. part n) (get new n)) (λ n. val (λ x. part_of new old list n) (get new n)) top
+      (λ n b. val_less (part n) (part_of new old list n) (get new n)
+      (part_by_tests (counts old new list n) (counts new old list n) (takes old new n) (takes new old n) (same_counts old new list n) (less n))) in
       let r = pairs_sum (λ n x. part_of new old list n) new top now below in
-      let q = picked_sum (larger new old) (counts new old list) new in
-      let f = both_sum (larger new old) (counts new old list) (numbers new) (filter (λ n. not (is_in n (numbers new))) (numbers old)) in
+      let q = picked_sum (takes new old) (counts new old list) new in
+      let f = both_sum (takes new old) (counts new old list) (numbers new) (filter (λ n. not (is_in n (numbers new))) (numbers old)) in
       let x = first in
       let y = second in
       omega (arith, a, x, y, s, l, t, r, q, f)
 
--- All that lives before a step or behind it, as a room in which all names count.
+-- The names before a step, of which those that are discarded have no bytes: the room is the same.
 
-pub load_room : (old new : Map Segment) → room_between old new (of_both old new) ≡ load_between old new
+abbrev pub emptied : Segment → Segment
+emptied s = record s { bytes = if s.discarded then [] else s.bytes }
+
+abbrev pub emptied_names : Map Segment → Map Segment
+emptied_names names = map (λ (e : ℕ × Segment). (e.0, emptied e.1)) names
+
+get_emptied : (names : Map Segment) (n : ℕ) → get (emptied_names names) n ≡ option_map emptied (get names n)
+get_emptied names n = get-map (λ (k : ℕ) (s : Segment). emptied s) names n
+
+emptied_some : (o : Option Segment) → is_some (option_map emptied o) ≡ is_some o
+emptied_some None = refl
+emptied_some (Some s) = refl
+
+emptied_lock : (o : Option Segment) → is_locked (option_map emptied o) ≡ is_locked o
+emptied_lock None = refl
+emptied_lock (Some s) = refl
+
+emptied_size : (o : Option Segment) → size_of (option_map emptied o) ≡ kept_size o
+emptied_size None = refl
+emptied_size (Some s) = go s.discarded
+  where
+    go : (b : Bool) → length (if b then [] else s.bytes) ≡ (if b then 0 else length s.bytes)
+    go true = refl
+    go false = refl
+
+emptied_kept : (o : Option Segment) → kept_size (option_map emptied o) ≡ kept_size o
+emptied_kept None = refl
+emptied_kept (Some s) = go s.discarded
+  where
+    go : (b : Bool) → (if b then 0 else length (if b then [] else s.bytes)) ≡ (if b then 0 else length s.bytes)
+    go true = refl
+    go false = refl
+
+pub some_emptied : (names : Map Segment) (n : ℕ) → is_some (get (emptied_names names) n) ≡ is_some (get names n)
+some_emptied names n = ap is_some (get_emptied names n) ∙ emptied_some (get names n)
+
+pub lock_emptied : (names : Map Segment) (n : ℕ) → is_locked (get (emptied_names names) n) ≡ is_locked (get names n)
+lock_emptied names n = ap is_locked (get_emptied names n) ∙ emptied_lock (get names n)
+
+pub size_emptied : (names : Map Segment) (n : ℕ) → size_of (get (emptied_names names) n) ≡ kept_size (get names n)
+size_emptied names n = ap size_of (get_emptied names n) ∙ emptied_size (get names n)
+
+numbers_emptied : (names : Map Segment) → numbers (emptied_names names) ≡ numbers names
+numbers_emptied [] = refl
+numbers_emptied (e ∷ es) = ap (λ (ns : List ℕ). e.0 ∷ ns) (numbers_emptied es)
+
+none_emptied : (o : Option Segment) → o ≡ None → option_map emptied o ≡ None
+none_emptied o none = ap (option_map emptied) none
+
+pub once_emptied : (names : Map Segment) → AreOnce names → AreOnce (emptied_names names)
+once_emptied [] once = once
+once_emptied (e ∷ es) once = (get_emptied es e.0 ∙ none_emptied (get es e.0) once.0, once_emptied es once.1)
+
+pub room_emptied : (old new : Map Segment) (list : List ℕ) → room_between (emptied_names old) new list ≡ room_between old new list
+room_emptied old new list =
+    let counted : counts (emptied_names old) new list ≡ counts old new list =
+    fun_ext (λ n. ap (λ (b : Bool). is_in n list || (b || is_locked (get new n))) (lock_emptied old n)) in
+    let taken : takes (emptied_names old) new ≡ takes old new =
+    fun_ext (λ n. ap (λ (k : ℕ). whole (max k (size_of (get new n)))) (ap kept_size (get_emptied old n) ∙ emptied_kept (get old n))) in
+    ap (λ (ns : List ℕ). sum (map (takes (emptied_names old) new) (filter (counts (emptied_names old) new list) (ns ++ filter (λ n. not (is_in n ns)) (numbers new))))) (numbers_emptied old)
+    ∙ (ap (λ (c : ℕ → Bool). sum (map (takes (emptied_names old) new) (filter c (of_both old new)))) counted
+    ∙ ap (λ (g : ℕ → ℕ). sum (map g (filter (counts old new list) (of_both old new)))) taken)
+
+-- The same sum over the names that count, whatever each of them takes.
+
+abbrev pub sum_by : (ℕ → ℕ) → Map Segment → Map Segment → List ℕ → ℕ
+sum_by g old new list = sum (map g (filter (counts old new list) (of_both old new)))
+
+abbrev pub part_by : (ℕ → ℕ) → Map Segment → Map Segment → List ℕ → ℕ → ℕ
+part_by g old new list n = if counts old new list n then g n else 0
+
+-- no number weighs more than its name takes
+pub record WeighsLess (s : Shelf) (part weight : ℕ → ℕ) : Type 0 where
+  pub none : (k : ℕ) → slot_at s.entries k ≡ None → weight k ≡ 0
+  pub each : (n k : ℕ) → key_of s n ≡ Some k → weight k ≤ part n
+
+-- All that lives before a step or behind it: all names count.
+
+pub load_room : (old new : Map Segment) → sum_by (larger old new) old new (of_both old new) ≡ load_between old new
 load_room old new =
     ap (λ (ns : List ℕ). sum (map (larger old new) ns))
     (filter_all (counts old new (of_both old new)) (of_both old new) (λ n e. or_front (is_in n (of_both old new)) (is_locked (get old n) || is_locked (get new n)) e))
@@ -184,12 +267,12 @@ in_old old new n s =
 -- What weighs no more than the names take, with a name that is new.
 
 module _ (p : Parts) (ps : List Process) (names : Map Segment) (next : ℕ) (reserved : List Reserve) (lawful : AreLawful p.shelf p.maps) (stands : StandsIn p ps names next reserved)
-    (new : Map Segment) (list : List ℕ) (weight : ℕ → ℕ) (least : AreAtLeast p.shelf names new list weight) where
+    (new : Map Segment) (list : List ℕ) (g weight : ℕ → ℕ) (least : WeighsLess p.shelf (part_by g names new list) weight) where
   abbrev s : Shelf
   s = p.shelf
 
   abbrev takes_by : ℕ → ℕ
-  takes_by = part_of names new list
+  takes_by = part_by g names new list
 
   abbrev by_slot : ℕ → ℕ
   by_slot k = in_slot (λ j. takes_by (entry s j).age) k (slot_at s.entries k)
@@ -201,9 +284,9 @@ module _ (p : Parts) (ps : List Process) (names : Map Segment) (next : ℕ) (res
       go None q = (let z = least.none k q in omega (arith, z))
       go (Some e) q = least.each (entry s k).age k (aged_key s k stands.ready.aged (ap is_some q))
 
-  olds : over weight (length s.entries) ≤ sum (map (larger names new) (filter (counts names new list) (numbers names)))
+  olds : over weight (length s.entries) ≤ sum (map g (filter (counts names new list) (numbers names)))
   olds =
-      let b = picked_sum (larger names new) (counts names new list) names in
+      let b = picked_sum g (counts names new list) names in
       let c = names_sum p ps names next reserved lawful stands (λ n x. takes_by n) (λ k. takes_by (entry s k).age) by_slot (λ n k x e is. ap takes_by (sym (found_at s n k e).1)) (λ k. refl) in
       let d = over-le weight by_slot (length s.entries) (λ k l. slots k) in
       omega (arith, b, c, d)
@@ -215,17 +298,17 @@ module _ (p : Parts) (ps : List Process) (names : Map Segment) (next : ℕ) (res
       go true e = absurd (false≢true (sym (ap is_some none) ∙ number_there names n e))
       go false e = refl
 
-  pub room_with_new : (n : ℕ) → get names n ≡ None → is_some (get new n) ≡ true → over weight (length s.entries) + takes_by n ≤ room_between names new list
+  pub room_with_new : (n : ℕ) → get names n ≡ None → is_some (get new n) ≡ true → over weight (length s.entries) + takes_by n ≤ sum_by g names new list
   room_with_new n none some =
       let rest : List ℕ = filter (λ (k : ℕ). not (is_in k (numbers names))) (numbers new) in
-      let a = both_sum (larger names new) (counts names new list) (numbers names) rest in
+      let a = both_sum g (counts names new list) (numbers names) rest in
       let o = olds in
-      let m = one_sum (larger names new) (counts names new list) n rest (in_filter (λ (k : ℕ). not (is_in k (numbers names))) n (numbers new) (fresh n none) (is_number new n some)) in
+      let m = one_sum g (counts names new list) n rest (in_filter (λ (k : ℕ). not (is_in k (numbers names))) n (numbers new) (fresh n none) (is_number new n some)) in
       omega (arith, a, o, m)
 
-  pub room_without_new : over weight (length s.entries) ≤ room_between names new list
+  pub room_without_new : over weight (length s.entries) ≤ sum_by g names new list
   room_without_new =
       let rest : List ℕ = filter (λ (k : ℕ). not (is_in k (numbers names))) (numbers new) in
-      let a = both_sum (larger names new) (counts names new list) (numbers names) rest in
+      let a = both_sum g (counts names new list) (numbers names) rest in
       let o = olds in
       omega (arith, a, o)

@@ -108,7 +108,7 @@ module _ (s : Setting) (w : World) (x : Process) (live : is_live x.state ≡ tru
         let now = live_is x.state live in
         spelled_turn z.shelf names w k d x (trapped_by b e) current at
         (spelled_died t m names z (changed w d x e) (changed w d x (trapped_by b e)) aged places behind (spelled d refl)
-        (acted_tidy s w x at now sound (trapped_by b e) (record { ruled = o.ruled; sizes = o.sizes; moves = o.moves }) tidy) (matches d refl)
+        (acted_tidy s w x at now sound (trapped_by b e) (record { ruled = o.ruled; sizes = o.sizes; moves = o.moves; still = o.still }) tidy) (matches d refl)
         (trapped_texts z w d x e (trapped_by b e).lines now refl))
 
     pub trapped_spelled : (t : Shelf) (m : Maps) (names : List (Option Name)) (z : Parts) → AreAged t → AreInPlace t m names → IsBehind t z.shelf → (pid : ℕ) → d.current ≡ pid → SpellsTrapped t z names pid

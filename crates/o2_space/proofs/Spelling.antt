@@ -15,8 +15,8 @@ use Rattle.o2_world.specs.Holders.{is_held, process_at}
 use Rattle.o2_world.specs.Known.{Known, Marks as SegmentMarks, same_text, text_name}
 use Rattle.o2_world.specs.Map.{Map, get}
 use Rattle.o2_world.proofs.TiedChanges.{flags_live}
-use Rattle.o2_world.specs.Rulings.{Ruling, aliasing_at, aliasing_of, allocation_at, by_load, free_index, freeing_of, full_size, held_under, in_use, is_alias}
-use Rattle.o2_world.specs.Rulings.{is_discardable, is_in_run, is_later, keeps_its_size, locking_of, locking_with, members, reallocation_of, reallocation_with, region_by}
+use Rattle.o2_world.specs.Rulings.{Ruling, grants, aliasing_at, aliasing_of, allocation_at, by_load, free_index, freeing_of, full_size, held_under, in_use, is_alias}
+use Rattle.o2_world.specs.Rulings.{is_discardable, is_in_run, is_later, keeps_its_size, locking_of, locking_with, members, reallocation_of, reallocation_with, region_by, resizes_with}
 use Rattle.o2_world.specs.Rulings.{sizing_of, sizing_with, unlocking_of, unlocking_with}
 use Rattle.o2_world.specs.Run.{all_changes, before, changed, next_dispatch, worked}
 use Rattle.o2_world.specs.Tied.{AreLive, IsSound}
@@ -230,7 +230,11 @@ module _ (k : Known) (n : ℕ) where
 
   resize_with : (name size : ℕ) (o : Option SegmentMarks) → RulesNoName (reallocation_with name size o)
   resize_with name size None = tt
-  resize_with name size (Some m) = either RulesNoName (keeps_its_size size m) _ _ tt (tt, tt)
+  resize_with name size (Some m) = either RulesNoName (keeps_its_size size m) _ _ tt (go m.discarded)
+    where
+      go : (b : Bool) → RulesNoName (grants 0 (resizes_with name size b))
+      go true = (tt, (tt, (tt, tt)))
+      go false = (tt, tt)
 
   resize_of : (size : ℕ) (o : Option Held) → RulesNoName (reallocation_of k size o)
   resize_of size None = tt
@@ -252,7 +256,7 @@ module _ (k : Known) (n : ℕ) where
 
   lock_with : (name : ℕ) (o : Option SegmentMarks) → RulesNoName (locking_with name o)
   lock_with name None = tt
-  lock_with name (Some m) = either RulesNoName (is_discardable m) _ _ (tt, tt) tt
+  lock_with name (Some m) = either RulesNoName (is_discardable m) _ _ (either RulesNoName m.discarded _ _ tt (tt, tt)) tt
 
   lock_of : (o : Option Held) → RulesNoName (locking_of k o)
   lock_of None = tt

@@ -5,7 +5,7 @@ use Rattle.o2_gate.specs.Befores.{IsKnown}
 use Rattle.o2_stands.specs.Stands.{IsSetTo, Stands}
 use Rattle.o2_world.specs.Holders.{process_at}
 use Rattle.o2_world.specs.Known.{known_of}
-use Rattle.o2_world.specs.Run.{next_dispatch}
+use Rattle.o2_world.specs.Run.{next_dispatch, words_coming}
 use Rattle.o2_world.specs.Tied.{IsSound}
 use Rattle.o2_world.specs.World.{Process, Setting, World}
 use Rattle.o2_space.specs.Parts.{parts_in}
@@ -27,8 +27,9 @@ pub record AgreesWith (m : Space) (device : ℕ) (block : ℕ → List ℕ) (s :
   pub set : IsSetTo (parts_in m device block) s
   pub spelled : AreSpelled m.store m.names w
 
--- The same; the world is sound, and its next step is one of the process of this number.
+-- The same; the world is sound, no word comes before its next step, and that is one of the process of this number.
 pub record HasTurn (m : Space) (device : ℕ) (block : ℕ → List ℕ) (s : Setting) (w : World) (number : ℕ) : Type 0 where
   pub agrees : AgreesWith m device block s w
   pub sound : IsSound w
   pub turn : (next_dispatch s w).current ≡ number
+  pub wordless : words_coming w ≡ 0

@@ -6,3 +6,4 @@ pub mod Nexts
 pub mod Calls
 pub mod Frames
 pub mod Begins
+pub mod Words

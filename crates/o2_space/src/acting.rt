@@ -13,7 +13,8 @@ ghost use Rattle.o2_store.specs.Loads.{live_load, swap_load};
 ghost use Rattle.o2_swapmap.specs.Piles.{all_of};
 ghost use Rattle.o2_world.specs.Effect.{effect};
 ghost use Rattle.o2_world.specs.Holders.{process_at};
-ghost use Rattle.o2_world.specs.Run.{before, next_dispatch};
+ghost use Rattle.o2_world.specs.Run.{before, next_dispatch, words_coming};
+ghost use Rattle.o2_world.specs.Tied.{IsSound};
 ghost use Rattle.o2_world.specs.Map.{Map};
 ghost use Rattle.o2_world.specs.World.{Process, Reserve, Segment, Setting, World, is_live as lives_on};
 ghost use Rattle.o2_gate.specs.Targets.{targets};
@@ -21,10 +22,10 @@ ghost use Rattle.o2_gate.specs.Pointed.{are_ready};
 ghost use Rattle.o2_stands.specs.Moves.{with_running};
 ghost use Rattle.o2_stands.specs.Parts.{Running as RunningThere};
 ghost use Rattle.o2_stands.specs.Stands.{IsSetTo, Stands, StandsIn};
-ghost use Rattle.o2_run.specs.Pieces.{PartHands, counts};
-ghost use Rattle.o2_stepping.specs.Pieces.{RanHands, StepHands};
+ghost use Rattle.o2_run.specs.Pieces.{counts, told_counts};
+ghost use Rattle.o2_stepping.specs.Pieces.{RanHands, RanPart, StepHands, StepPart};
 ghost use Rattle.o2_stepping.specs.Shapes.{SameShape};
-ghost use Rattle.o2_stepping.specs.Rooms.{all_names, needed_names, room_in};
+ghost use Rattle.o2_stepping.specs.Rooms.{all_names, needed_names, room_in, whole_names};
 ghost use Rattle.o2_stepping.specs.Taken.{OnAsks, OnDone, OnNoStep, OnBegun, OnStep, OnSwapStop, SteppedFor, TakenFor};
 ghost use Rattle.o2_shared.specs.Shares.{AreFew};
 ghost use Rattle.o2_shared.specs.Texts.{IsBehind};
@@ -136,20 +137,22 @@ impl Space {
             ≤ self.old.store.places.size) }
         ensures no_room { (s : Setting) (w : World) (x : Process) → IsTrue (S.told swap.new)
             → StandsAt self.old (S.blocks swap.old) (S.block swap.old) w pid x → cpu.old ≡ x.cpu
+            → lives_on x.state ≡ true → IsSound w
             → OnSwapStop result (self.old.store.places.size
-            < room_in self.old.store (needed_names (before s w pid x))) (Unit {0}) (Unit {0}) }
+            < room_in self.old.store (whole_names self.old.store (needed_names (before s w pid x)))) (Unit {0}) (Unit {0}) }
         ensures loads { OnSwapStop result (Unit {0})
             ((all_of self.old.store.swap < swap_load self.old.store)
             × (self.old.store.places.size < live_load self.old.store)) (Unit {0}) }
         ensures idle { (s : Setting) (w : World)
             → Stands (parts_in self.old (S.blocks swap.old) (S.block swap.old)) w
-            → IsSetTo (parts_in self.old (S.blocks swap.old) (S.block swap.old)) s → AllFits s w
+            → IsSetTo (parts_in self.old (S.blocks swap.old) (S.block swap.old)) s → words_coming w ≡ 0 → AllFits s w
             → NoneTaken self.old.store.swap → IsIdle self.new.store swap.old swap.new }
         ensures next_room { (text : Option (List ℕ)) → IsSeenAs text (I.past input.new)
             → (s : Setting) (w : World) (x : Process) → IsTrue (S.told swap.new)
             → Begins self.old (S.blocks swap.old) (S.block swap.old) s w pid x
             (left_as text (I.left input.old) (I.past input.old)) → cpu.old ≡ x.cpu
             → IsSetTo (parts_in self.old (S.blocks swap.old) (S.block swap.old)) s
+            → lives_on x.state ≡ true → IsSound w → words_coming w ≡ 0
             → (next_dispatch s w).current ≡ pid → SaysStep (S.blocks swap.old) s w result }
         ensures together { GoTogether self.new (S.blocks swap.new) }
         ensures keeps { KeepsSpace self.old self.new }
@@ -173,9 +176,9 @@ impl Space {
             → (s : Setting) (w : World) (x : Process) → IsTrue (S.told swap.new)
             → Begins self.old (S.blocks swap.old) (S.block swap.old) s w pid x
             (left_as text (I.left input.old) (I.past input.old)) → cpu.old ≡ x.cpu
-            → PartHands (effect (before s w pid x))
-            (counts (C.puts console.old) (C.puts console.new)
-            (R.puts report.old) (R.puts report.new) 0) result }
+            → StepPart (effect (before s w pid x))
+            (told_counts (C.puts console.old) (C.puts console.new)
+            (R.puts report.old) (R.puts report.new) 0 (R.taken report.old) (R.taken report.new)) result }
     {
         lawful(&self.store, &self.regions);
         let result = step_in_store(
@@ -270,16 +273,17 @@ impl Space {
         ensures console_count { C.faults console.old ≤ C.faults console.new }
         ensures report_count { R.faults report.old ≤ R.faults report.new }
 
-        // Each line is one put, and so is the piece where it has bytes. Where a sink fails, no more lines were put than there are.
+        // Each line is one put, and so is the piece where it has bytes. Where a line failed, those in front of it were put whole.
         ensures puts { RanHands (counts (C.puts console.old) (C.puts console.new)
             (R.puts report.old) (R.puts report.new) 0) result }
         ensures part { (text : Option (List ℕ)) → IsSeenAs text (I.past input.new)
             → (s : Setting) (w : World) (x : Process) → IsTrue (S.told swap.new)
             → Begins self.old (S.blocks swap.old) (S.block swap.old) s w pid x
             (left_as text (I.left input.old) (I.past input.old))
-            → PartHands (effect (before s w pid x))
-            (counts (C.puts console.old) (C.puts console.new)
-            (R.puts report.old) (R.puts report.new) 0) result }
+            → HasTurn self.old (S.blocks swap.old) (S.block swap.old) s w pid
+            → RanPart (effect (before s w pid x))
+            (told_counts (C.puts console.old) (C.puts console.new)
+            (R.puts report.old) (R.puts report.new) 0 (R.taken report.old) (R.taken report.new)) result }
     {
         let mut cpu = self.procs[pid as usize - 1].cpu;
         match self.step(pid, &mut cpu, input, console, report, swap) {

@@ -18,8 +18,8 @@ ghost use Rattle.o2_gate.specs.MovedLines.{AreInside, all_lines};
 ghost use Rattle.o2_gate.specs.Replies.{IsValue, bytes_of};
 ghost use Rattle.o2_gate.specs.Targets.{name_of};
 ghost use Rattle.o2_stands.specs.Stands.{Stands};
-ghost use Rattle.o2_run.specs.Pieces.{counts};
-ghost use Rattle.o2_stepping.specs.Pieces.{RanHands};
+ghost use Rattle.o2_run.specs.Pieces.{counts, told_counts};
+ghost use Rattle.o2_stepping.specs.Pieces.{RanHands, RanPart};
 ghost use Rattle.o2_stepping.specs.Ran.{IsCallOf};
 ghost use Rattle.o2_stepping.specs.Rooms.{all_names, room_in};
 ghost use Rattle.o2_stepping.specs.Taken.{IsSwapStop, OnErr, OnNoStep, OnBegun, TakenFor};
@@ -262,6 +262,13 @@ impl Space {
         ensures cause { TakenFor (Rose (R.faults report.old) (R.faults report.new)) ⊥ result }
         ensures report_count { R.faults report.old ≤ R.faults report.new }
         ensures puts { (c : ℕ) → RanHands (counts c c (R.puts report.old) (R.puts report.new) 0) result }
+        // Where a line failed, those in front of it were put whole.
+        ensures part { (s : Setting) (w : World) (x : Process) (c : ℕ) → IsTrue (S.told swap.new)
+            → StandsAt self.old (S.blocks swap.old) (S.block swap.old) w pid x
+            → HasTurn self.old (S.blocks swap.old) (S.block swap.old) s w pid
+            → registers ≡ x.cpu
+            → let b = before s w pid x in effect b ≡ single_stepped b (asked arguments b next)
+            → RanPart (effect b) (told_counts c c (R.puts report.old) (R.puts report.new) 0 (R.taken report.old) (R.taken report.new)) result }
     {
         let mut cpu = registers;
         match self.make_call(pid, &mut cpu, arguments, next, swap) {

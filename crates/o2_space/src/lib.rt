@@ -3,6 +3,7 @@
 
 mod acting;
 mod calling;
+mod discarding;
 mod space;
 
 pub use acting::is_live;

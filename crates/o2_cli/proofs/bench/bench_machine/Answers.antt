@@ -11,7 +11,7 @@ use Rattle.o2_cli.proofs.Ample.{fits_from}
 use Rattle.o2_cli.proofs.Runs.{has_started, stands_over, start_of}
 use Rattle.o2_cli.proofs.Sessions.{ran}
 use Rattle.o2_words.specs.declared.words.Verb.TheVariants.{Bench}
-use Rattle.o2_cli.specs.declared.status.Status.TheVariants.{Fine, SinkFault}
+use Rattle.o2_cli.specs.declared.status.Status.TheVariants.{Fine}
 use Rattle.o2_cli.proofs.Benches.{bench_cut, bench_done, faulted_bench, has_last_line}
 use Rattle.o2_cli.proofs.bench.bench_machine.Goals as goal
 

@@ -25,7 +25,7 @@ pub slice_in_store-done-requires-clause-settled : goal.slice_in_store-done-requi
 slice_in_store-done-requires-clause-settled c = (c.requires.together.over.ready (λ k. [])).settled
 
 pub returns-clause-later : goal.returns-clause-later
-returns-clause-later c = λ device block s w stands set runs chosen turn budget.
+returns-clause-later c = λ device block s w stands set runs wordless chosen turn budget.
     let m = c.args.space.now in
     let pid = c.args.pid in
     let y : Proc = c.index.result.now in
@@ -37,7 +37,7 @@ returns-clause-later c = λ device block s w stands set runs chosen turn budget.
     let behind = runs_behind m.procs.items pid c.requires.some c.requires.there (record { cpu = new.cpu; state = Live }) in
     let within = c.slice_in_store-done.ensures.within in
     subst (λ (f : ℕ → Option Running). StandsLater (made new.store new.regions m.images device block f) s w k) (sym behind)
-    (sliced_later pid m.images device block (running_at m.procs.items) s w runs chosen k a b c.slice_in_store-done.ensures.sliced
+    (sliced_later pid m.images device block (running_at m.procs.items) s w runs wordless chosen k a b c.slice_in_store-done.ensures.sliced
     (record {
       stands = subst (λ (f : ℕ → Option Running). Stands (made m.store m.regions m.images device block f) w) before stands;
       set = set_as m.store m.regions m.images device block block (running_at m.procs.items) _ s set;

@@ -2,13 +2,14 @@ use Rattle.std.proofs.Common.{◌≤◌, ap, sym, ◌∙◌, refl, subst, arith,
 use Rattle.o2_conf.proofs.Choice.{lives_within}
 use Rattle.o2_conf.specs.Dispatch.{lives}
 use Rattle.o2_regions.specs.Lives.{lives as is_marked}
-use Rattle.o2_sched.specs.Schedule.{Schedule, next_of}
+use Rattle.o2_sched.specs.Schedule.{Schedule, next_of, work_left}
+use Rattle.o2_sched.proofs.Work.{taken_less}
 use Rattle.o2_segs.proofs.Sharing.{few_more}
 use Rattle.o2_space.proofs.Framing.{set_kept}
 use Rattle.o2_store.specs.Idle.{NoneTaken}
 use Rattle.o2_swapmap.specs.Piles.{Blocks}
 use Rattle.o2_machine.proofs.Marks.{some_number}
-use Rattle.o2_machine.proofs.Slicing.{budget_left, chosen_is, is_ahead, none_done, runs_on, some_steps, turn_left}
+use Rattle.o2_machine.proofs.Slicing.{budget_left, chosen_is, is_ahead, none_coming, none_done, runs_on, some_steps, turn_left}
 use Rattle.o2_machine.proofs.machine.Machine.steps_at_once.Goals as goal
 
 pub slice_of-done-requires-clause-some : goal.slice_of-done-requires-clause-some
@@ -52,6 +53,7 @@ returns-then-done-gt0-clause-steps c = λ device block s w stands.
     let ahead = is_ahead m.sched c.args.most c.requires.most c.requires.some in
     let e = c.slice_of-done.ensures in
     let later = e.later device block s w stands.space stands.set (runs_on m device block s w c.args.most stands ahead c.requires.some)
+    (none_coming m device block s w c.args.most stands ahead c.requires.some)
     (chosen_is m device block s w c.args.most stands ahead c.requires.some ∙ sym c.requires.process)
     (turn_left m device block s w c.args.most stands ahead c.requires.some) (budget_left m device block s w c.args.most stands ahead c.requires.some) in
     some_steps m device block s w c.args.most stands ahead c.requires.some _ c.slice_of-done.new.space c.slice_of-done.result later (set_kept m.space c.slice_of-done.new.space device device block block e.keeps refl s stands.set) e.keeps.avail e.names e.tables refl refl refl refl
@@ -63,6 +65,7 @@ returns-else-done-gt0-clause-steps c = λ device block s w stands.
     let ahead = is_ahead m.sched c.args.most c.requires.most c.requires.some in
     let e = c.slice_of-done.ensures in
     let later = e.later device block s w stands.space stands.set (runs_on m device block s w c.args.most stands ahead c.requires.some)
+    (none_coming m device block s w c.args.most stands ahead c.requires.some)
     (chosen_is m device block s w c.args.most stands ahead c.requires.some ∙ sym c.requires.process)
     (turn_left m device block s w c.args.most stands ahead c.requires.some) (budget_left m device block s w c.args.most stands ahead c.requires.some) in
     none_done m device block s w c.args.most stands ahead c.requires.some _ c.slice_of-done.new.space c.slice_of-done.result later (set_kept m.space c.slice_of-done.new.space device device block block e.keeps refl s stands.set) e.keeps.avail e.names e.tables refl refl refl refl
@@ -93,3 +96,15 @@ returns-then-done-gt0-clause-idle c = λ none. subst (λ (m : Blocks). NoneTaken
 
 pub returns-else-done-gt0-clause-idle : goal.returns-else-done-gt0-clause-idle
 returns-else-done-gt0-clause-idle c = λ none. subst (λ (m : Blocks). NoneTaken m) (sym c.slice_of-done.ensures.blocks) none
+
+pub returns-then-done-gt0-clause-left : goal.returns-then-done-gt0-clause-left
+returns-then-done-gt0-clause-left c =
+    (let ahead = is_ahead c.args.self.now.sched c.args.most c.requires.most c.requires.some in
+    let budget = ahead.budget in
+    let within = c.slice_of-done.ensures.within in
+    let same = ap work_left c.take.ensures.taken in
+    let less = taken_less c.args.self.now.sched c.slice_of-done.result (omega (arith, budget, within)) in
+    omega (arith, same, less))
+
+pub returns-else-done-gt0-clause-left : goal.returns-else-done-gt0-clause-left
+returns-else-done-gt0-clause-left c = (let none = c.if-done-gt0.false in omega (arith, none))

@@ -1,16 +1,17 @@
 use Rattle.std.proofs.Common.{ap, sym, ◌∙◌, refl, arith}
 use Rattle.o2_conf.specs.Dispatch.{lives}
-use Rattle.o2_sched.specs.Schedule.{Schedule}
+use Rattle.o2_sched.specs.Schedule.{Schedule, work_left}
 use Rattle.o2_segs.proofs.Sharing.{few_more}
 use Rattle.o2_machine.proofs.Slicing.{not_stopped}
 use Rattle.o2_machine.proofs.Turns.{same_space}
 use Rattle.o2_machine.proofs.turn.MachineSteps.slice.Goals as goal
 
 pub returns-then-is_some-clause-steps : goal.returns-then-is_some-clause-steps
-returns-then-is_some-clause-steps c = λ device block s w stands. record { silent = λ j below. absurd (omega (arith, below)); stands = stands }
+returns-then-is_some-clause-steps c = λ device block s w stands. record { wordless = λ j below. absurd (omega (arith, below)); silent = λ j below. absurd (omega (arith, below)); stands = stands }
 
 pub returns-then-ahead-eq0-clause-steps : goal.returns-then-ahead-eq0-clause-steps
 returns-then-ahead-eq0-clause-steps c = λ device block s w stands. record {
+  wordless = λ j below. absurd (omega (arith, below));
   silent = λ j below. absurd (omega (arith, below));
   stands = same_space _ c.args.self.now _ _ _ _ s w stands (record { sched = c.ahead-ahead.ensures.same; avail = refl; budget = refl; bytes = refl; lines = refl }) stands.space stands.set stands.spells;
 }
@@ -38,3 +39,9 @@ returns-clause-device c = λ blocks goes.
 
 pub returns-clause-idle : goal.returns-clause-idle
 returns-clause-idle c = λ none. c.steps_at_once.ensures.idle none
+
+pub returns-then-ahead-eq0-clause-left : goal.returns-then-ahead-eq0-clause-left
+returns-then-ahead-eq0-clause-left c = (let same = ap work_left c.ahead-ahead.ensures.same in omega (arith, same))
+
+pub returns-clause-left : goal.returns-clause-left
+returns-clause-left c = (let same = ap work_left c.ahead-ahead.ensures.same in let left = c.steps_at_once.ensures.left in omega (arith, same, left))

@@ -24,7 +24,7 @@ use Rattle.o2_space.proofs.Afters.{plain_after}
 use Rattle.o2_space.proofs.Beginning.{turn_kept}
 use Rattle.o2_space.proofs.Framing.{adds_behind, keeps_behind, none_behind, none_within, shape_adds}
 use Rattle.o2_store.proofs.Framing.{device_behind, device_for}
-use Rattle.o2_space.proofs.Askings.{acts_from, asked_at, asked_between, asked_room, cause_by, as_failed, marks_from, part_none, puts_from, ran_between, ran_cause, ran_puts, ran_says, room_kept, stop_same}
+use Rattle.o2_space.proofs.Askings.{acts_from, asked_at, asked_between, asked_room, cause_by, as_failed, marks_from, part_from, puts_from, ran_between, ran_cause, ran_part, ran_puts, ran_says, room_kept, stop_same}
 use Rattle.o2_space.proofs.Commits.{lived, process_was}
 use Rattle.o2_space.proofs.space.Space.act.Goals as goal
 
@@ -81,7 +81,7 @@ returns-in-Err-clause-acts g c = λ text may s w x tells begins turn.
     c.in-Err.ensures.steps text may s w x tells begins (ap (λ (r : Running). r.cpu) was)
 
 pub returns-in-Err-clause-part : goal.returns-in-Err-clause-part
-returns-in-Err-clause-part g c = λ text may s w x tells begins.
+returns-in-Err-clause-part g c = λ text may s w x tells begins turn.
     let y : Proc = c.index.result.now in
     let was = process_was c.args.self.now.procs.items c.args.pid w.processes x c.requires.some c.requires.there (begins.here.stands.processes c.args.pid) begins.here.process y c.index.ensures in
     c.in-Err.ensures.part text may s w x tells begins (ap (λ (r : Running). r.cpu) was)
@@ -90,7 +90,8 @@ pub returns-in-Err-clause-next_room : goal.returns-in-Err-clause-next_room
 returns-in-Err-clause-next_room g c = λ text may s w x tells begins turn.
     let y : Proc = c.index.result.now in
     let was = process_was c.args.self.now.procs.items c.args.pid w.processes x c.requires.some c.requires.there (begins.here.stands.processes c.args.pid) begins.here.process y c.index.ensures in
-    c.in-Err.ensures.next_room text may s w x tells begins (ap (λ (r : Running). r.cpu) was) turn.agrees.set turn.turn
+    c.in-Err.ensures.next_room text may s w x tells begins (ap (λ (r : Running). r.cpu) was) turn.agrees.set
+    (lived c.args.self.now.procs.items c.args.pid w.processes x c.requires.some c.requires.there (begins.here.stands.processes c.args.pid) begins.here.process c.args.self.now.ends c.requires.together.marked c.requires.live) turn.sound turn.wordless turn.turn
 
 pub returns-in-Err-clause-marks : goal.returns-in-Err-clause-marks
 returns-in-Err-clause-marks g c = λ n. ap (λ (ends : List Bool). lives ends n) c.step.ensures.ends
@@ -123,7 +124,8 @@ pub returns-in-Ok-Ran-clause-next_room : goal.returns-in-Ok-Ran-clause-next_room
 returns-in-Ok-Ran-clause-next_room g c = λ text may s w x tells begins turn.
     let y : Proc = c.index.result.now in
     let was = process_was c.args.self.now.procs.items c.args.pid w.processes x c.requires.some c.requires.there (begins.here.stands.processes c.args.pid) begins.here.process y c.index.ensures in
-    ran_says _ c.in-Ok-Ran.ran c.in-Ok-Ran.field-0-is (g.S.SwapDevice.blocks c.args.swap.now) s w (c.in-Ok-Ran.ensures.next_room text may s w x tells begins (ap (λ (r : Running). r.cpu) was) turn.agrees.set turn.turn)
+    ran_says _ c.in-Ok-Ran.ran c.in-Ok-Ran.field-0-is (g.S.SwapDevice.blocks c.args.swap.now) s w (c.in-Ok-Ran.ensures.next_room text may s w x tells begins (ap (λ (r : Running). r.cpu) was) turn.agrees.set
+    (lived c.args.self.now.procs.items c.args.pid w.processes x c.requires.some c.requires.there (begins.here.stands.processes c.args.pid) begins.here.process c.args.self.now.ends c.requires.together.marked c.requires.live) turn.sound turn.wordless turn.turn)
 
 pub returns-in-Ok-Ran-clause-together : goal.returns-in-Ok-Ran-clause-together
 returns-in-Ok-Ran-clause-together g c =
@@ -136,6 +138,12 @@ returns-in-Ok-Ran-clause-marks g c = λ n.
 
 pub returns-in-Ok-Ran-clause-puts : goal.returns-in-Ok-Ran-clause-puts
 returns-in-Ok-Ran-clause-puts g c = ran_puts _ c.in-Ok-Ran.ran c.in-Ok-Ran.field-0-is _ c.in-Ok-Ran.ensures.puts
+
+pub returns-in-Ok-Ran-clause-part : goal.returns-in-Ok-Ran-clause-part
+returns-in-Ok-Ran-clause-part g c = λ text may s w x tells begins turn.
+    let y : Proc = c.index.result.now in
+    let was = process_was c.args.self.now.procs.items c.args.pid w.processes x c.requires.some c.requires.there (begins.here.stands.processes c.args.pid) begins.here.process y c.index.ensures in
+    ran_part _ c.in-Ok-Ran.ran c.in-Ok-Ran.field-0-is (effect (before s w c.args.pid x)) _ (c.in-Ok-Ran.ensures.part text may s w x tells begins (ap (λ (r : Running). r.cpu) was))
 
 pub returns-in-Ok-Ran-clause-cause : goal.returns-in-Ok-Ran-clause-cause
 returns-in-Ok-Ran-clause-cause g c =
@@ -210,7 +218,24 @@ returns-in-Ok-Asked-clause-puts g c =
     puts_from (R.puts c.call.new.report) c.call.result (ap C.puts asks.2) (ap R.puts asks.3) (c.call.ensures.puts (C.puts args.console.now))
 
 pub returns-in-Ok-Asked-clause-part : goal.returns-in-Ok-Asked-clause-part
-returns-in-Ok-Asked-clause-part g c = λ text may s w x tells begins. part_none (effect (before s w c.args.pid x)) _ c.call.result c.call.ensures.not_begun
+returns-in-Ok-Asked-clause-part g c = λ text may s w x tells begins turn.
+    let S = g.S.SwapDevice in
+    let C = g.C.Sink in
+    let R = g.R.Sink in
+    let new = c.step.new in
+    let args = c.args in
+    let y : Proc = c.index.result.now in
+    let was = process_was c.args.self.now.procs.items c.args.pid w.processes x c.requires.some c.requires.there (begins.here.stands.processes c.args.pid) begins.here.process y c.index.ensures in
+    let b = before s w c.args.pid x in
+    let told = c.call.ensures.device.told tells in
+    let steps = c.in-Ok-Asked.ensures.steps text may s w x told begins (ap (λ (r : Running). r.cpu) was) in
+    let asks = asked_between _ c.in-Ok-Asked.arguments c.in-Ok-Asked.next c.in-Ok-Asked.field-0-is b w _ _ _ _ _ _ _ _ steps in
+    let next = turn_kept c.args.self.now c.step.new.self (S.blocks c.args.swap.now) (S.blocks c.step.new.swap) (S.block c.args.swap.now) (S.block c.step.new.swap)
+    c.step.ensures.keeps c.step.ensures.device.blocks c.step.ensures.shape c.step.ensures.names s w c.args.pid turn in
+    let still = asked_at _ c.in-Ok-Asked.arguments c.in-Ok-Asked.next c.in-Ok-Asked.field-0-is
+    (λ a. (new.cpu ≡ c.index.result.now.cpu) × (new.input ≡ args.input.now) × (new.console ≡ args.console.now) × (new.report ≡ args.report.now)) c.in-Ok-Asked.ensures.asks in
+    part_from (effect b) (R.puts c.call.new.report) (R.taken c.call.new.report) c.call.result (ap C.puts still.2) (ap R.puts still.3) (ap R.taken still.3)
+    (c.call.ensures.part s w x (C.puts args.console.now) tells (record { stands = asks.still.stands; process = begins.here.process }) next asks.cpu asks.effect)
 
 -- The names that are kept.
 
@@ -255,18 +280,18 @@ returns-in-Ok-Asked-clause-spells g c = λ text may s w x tells begins turn.
 
 pub returns-in-Err-clause-idle : goal.returns-in-Err-clause-idle
 returns-in-Err-clause-idle g c = λ text may s w x tells begins turn fit none.
-    c.step.ensures.idle s w begins.here.stands turn.agrees.set fit none
+    c.step.ensures.idle s w begins.here.stands turn.agrees.set turn.wordless fit none
 
 pub returns-in-Ok-Ran-clause-idle : goal.returns-in-Ok-Ran-clause-idle
 returns-in-Ok-Ran-clause-idle g c = λ text may s w x tells begins turn fit none.
-    let i = c.step.ensures.idle s w begins.here.stands turn.agrees.set fit none in
+    let i = c.step.ensures.idle s w begins.here.stands turn.agrees.set turn.wordless fit none in
     record { device = i.device; none = c.commit.ensures.unused i.none }
 
 pub returns-in-Ok-Asked-clause-idle : goal.returns-in-Ok-Asked-clause-idle
 returns-in-Ok-Asked-clause-idle g c = λ text may s w x tells begins turn fit none.
     let S = g.S.SwapDevice in
     let m = c.args.self.now in
-    let i = c.step.ensures.idle s w begins.here.stands turn.agrees.set fit none in
+    let i = c.step.ensures.idle s w begins.here.stands turn.agrees.set turn.wordless fit none in
     let y : Proc = c.index.result.now in
     let was = process_was m.procs.items c.args.pid w.processes x c.requires.some c.requires.there (begins.here.stands.processes c.args.pid) begins.here.process y c.index.ensures in
     let told = subst (λ (d : _). IsTrue (S.told d)) (sym i.device) tells in

@@ -6,16 +6,17 @@ use Rattle.o2_store.specs.Shelf.{Shelf}
 use Rattle.o2_world.specs.Effect.{effect}
 use Rattle.o2_world.specs.Run.{before, changed}
 use Rattle.o2_calls.specs.SharedActs.{AreSpelled}
+use Rattle.o2_run.specs.Pieces.{told_counts}
 use Rattle.o2_world.specs.World.{is_live}
 use Rattle.o2_stands.specs.Parts.{Parts}
 use Rattle.o2_stands.specs.Stands.{StandsIn}
 use Rattle.o2_space.specs.Parts.{parts_in}
 use Rattle.o2_space.proofs.Commits.{lived}
-use Rattle.o2_space.proofs.Askings.{as_failed, no_step, none_put, not_caused, not_begun, stops_stay, told_puts}
+use Rattle.o2_space.proofs.Askings.{as_failed, no_step, none_put, not_caused, not_begun, part_late, part_none, stops_stay, told_puts}
 use Rattle.o2_space.proofs.Framing.{adds_retold, keeps_behind, keeps_retold, none_added}
 use Rattle.o2_store.proofs.Framing.{device_for}
 use Rattle.o2_space.proofs.Alike.{retold}
-use Rattle.o2_space.proofs.Replied.{acts_live, acts_trapped, dead_state_is, orderly_call, spells_live, spells_trapped, then_trapped}
+use Rattle.o2_space.proofs.Replied.{acts_live, acts_trapped, dead_state_is, late_live, late_trapped, none_live, none_trapped, orderly_call, spells_live, spells_trapped, then_trapped}
 use Rattle.o2_space.proofs.SpelledCalls.{called_spelled, trapped_spelled}
 use Rattle.o2_space.proofs.Spelling.{spelled_by, spelled_still}
 use Rattle.o2_space.proofs.space.Space.call.Goals as goal
@@ -272,3 +273,41 @@ pub returns-then-not-is_live-clause-adds : goal.returns-then-not-is_live-clause-
 returns-then-not-is_live-clause-adds g c =
     none_added c.args.self.now c.commit.new.self c.commit-then-not-is_live.new.self 4096 1 c.commit-then-not-is_live.ensures.adds
     (none_added c.args.self.now _ c.commit.new.self 4096 1 c.commit.ensures.adds (adds_retold c.in-Ok.ensures.adds))
+
+-- Which line failed.
+
+pub returns-in-Err-clause-part : goal.returns-in-Err-clause-part
+returns-in-Err-clause-part g c = λ s w x k tells here turn same eff.
+    let puts = g.R.Sink.puts c.args.report.now in
+    let taken = g.R.Sink.taken c.args.report.now in
+    part_none (effect (before s w c.args.pid x)) (told_counts k k puts puts 0 taken taken) c.in-Err.fault c.in-Err.ensures.stops
+
+pub returns-else-not-is_live-clause-part : goal.returns-else-not-is_live-clause-part
+returns-else-not-is_live-clause-part g c = λ s w x k tells here turn same eff.
+    let made = c.make_call.new in
+    let S = g.S.SwapDevice in
+    let q : Parts = parts_in made.self (S.blocks made.swap) (S.block made.swap) in
+    let told = c.reply-ran.ensures in
+    let called = c.in-Ok.ensures.makes s w x tells here turn.agrees turn.sound.tied same in
+    let moves = c.in-Ok.ensures.moves s w x tells here turn.agrees turn.sound.tied same in
+    part_late (effect (before s w c.args.pid x)) k _ _ _ _ c.reply-ran.result
+    (none_live s w x c.args.pid c.args.arguments c.args.next made.cpu q c.in-Ok.answer called made.self.services.moves moves c.args.registers same eff _ _ (Some w.input) None c.reply-ran.result
+    (record { state = told.state; bytes = told.bytes; lines = told.lines; report = told.report }) refl (sym c.if-not-is_live.ensures))
+    (λ e. late_live s w x c.args.pid c.args.arguments c.args.next made.cpu q c.in-Ok.answer called made.self.services.moves moves c.args.registers same eff _ _ (Some w.input) None c.reply-ran.result
+    (record { state = told.state; bytes = told.bytes; lines = told.lines; report = told.report }) refl (sym c.if-not-is_live.ensures)
+    (g.R.Sink.puts c.args.report.now) (g.R.Sink.puts c.reply-ran.new.report) (told.line e))
+
+pub returns-then-not-is_live-clause-part : goal.returns-then-not-is_live-clause-part
+returns-then-not-is_live-clause-part g c = λ s w x k tells here turn same eff.
+    let made = c.make_call.new in
+    let S = g.S.SwapDevice in
+    let q : Parts = parts_in made.self (S.blocks made.swap) (S.block made.swap) in
+    let told = c.reply-ran.ensures in
+    let called = c.in-Ok.ensures.makes s w x tells here turn.agrees turn.sound.tied same in
+    let moves = c.in-Ok.ensures.moves s w x tells here turn.agrees turn.sound.tied same in
+    part_late (effect (before s w c.args.pid x)) k _ _ _ _ c.reply-ran.result
+    (none_trapped s w x c.args.pid c.args.arguments c.args.next made.cpu q c.in-Ok.answer called made.self.services.moves moves c.args.registers same eff _ _ (Some w.input) None c.reply-ran.result
+    (record { state = told.state; bytes = told.bytes; lines = told.lines; report = told.report }) refl (sym c.if-not-is_live.ensures))
+    (λ e. late_trapped s w x c.args.pid c.args.arguments c.args.next made.cpu q c.in-Ok.answer called made.self.services.moves moves c.args.registers same eff _ _ (Some w.input) None c.reply-ran.result
+    (record { state = told.state; bytes = told.bytes; lines = told.lines; report = told.report }) refl (sym c.if-not-is_live.ensures)
+    (g.R.Sink.puts c.args.report.now) (g.R.Sink.puts c.reply-ran.new.report) (told.line e))

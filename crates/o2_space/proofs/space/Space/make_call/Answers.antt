@@ -101,7 +101,7 @@ returns-in-NoRoom-clause-room g c = λ s w x tells here turn live same call room
     let p : Parts = parts_in m (S.blocks c.args.swap.now) (S.block c.args.swap.now) in
     let over = over_here m (S.blocks c.args.swap.now) (S.block c.args.swap.now) s w here.stands turn.agrees c.lawful.ensures in
     let spells = spells_here m (S.blocks c.args.swap.now) (S.block c.args.swap.now) s w here.stands turn.agrees c.requires.together in
-    lacks_at p s w x c.lawful.ensures turn.agrees.set here.stands live turn.sound c.args.arguments c.args.next c.args.cpu.now same _ c.args.pid turn.turn
+    lacks_at p s w x c.lawful.ensures turn.agrees.set here.stands live turn.sound turn.wordless c.args.arguments c.args.next c.args.cpu.now same _ c.args.pid turn.turn
     (record { there = here.process; call = call; step = c.requires.can_step; ready = c.requires.aimed; keeps = c.ids.ensures ∙ ap segments_of c.call_need-need.ensures })
     (c.in-NoRoom.ensures.row p s w over spells).answer
     (c.in-NoRoom.ensures.stops tt) (c.in-NoRoom.ensures.no_room refl) (c.in-NoRoom.ensures.row p s w over spells).lacks
@@ -140,7 +140,7 @@ returns-in-SwapFull-clause-room g c = λ s w x tells here turn live same call ro
     let p : Parts = parts_in m (S.blocks c.args.swap.now) (S.block c.args.swap.now) in
     let over = over_here m (S.blocks c.args.swap.now) (S.block c.args.swap.now) s w here.stands turn.agrees c.lawful.ensures in
     let spells = spells_here m (S.blocks c.args.swap.now) (S.block c.args.swap.now) s w here.stands turn.agrees c.requires.together in
-    full_at p s w x c.lawful.ensures turn.agrees.set here.stands live turn.sound c.args.arguments c.args.next c.args.cpu.now same _ c.args.pid turn.turn
+    full_at p s w x c.lawful.ensures turn.agrees.set here.stands live turn.sound turn.wordless c.args.arguments c.args.next c.args.cpu.now same _ c.args.pid turn.turn
     (record { there = here.process; call = call; step = c.requires.can_step; ready = c.requires.aimed; keeps = c.ids.ensures ∙ ap segments_of c.call_need-need.ensures })
     (c.in-SwapFull.ensures.row p s w over spells).answer
     (c.in-SwapFull.ensures.stops tt) (c.in-SwapFull.ensures.swap_full refl)
@@ -285,7 +285,7 @@ returns-in-Done-clause-room g c = λ s w x tells here turn live same call room.
     let spells = spells_here m (S.blocks c.args.swap.now) (S.block c.args.swap.now) s w here.stands turn.agrees c.requires.together in
     let q : Parts = parts_in (record c.args.self.now { store = c.give.new.store; regions = c.give.new.regions }) (S.blocks c.act.new.swap) (S.block c.act.new.swap) in
     let e = c.act.ensures in
-    fits_at p s w x c.lawful.ensures turn.agrees.set here.stands live turn.sound c.args.arguments c.args.next c.args.cpu.now same _ c.args.pid turn.turn
+    fits_at p s w x c.lawful.ensures turn.agrees.set here.stands live turn.sound turn.wordless c.args.arguments c.args.next c.args.cpu.now same _ c.args.pid turn.turn
     (record { there = here.process; call = call; step = c.requires.can_step; ready = c.requires.aimed; keeps = c.ids.ensures ∙ ap segments_of c.call_need-need.ensures })
     c.act.new.store c.act.new.regions e.holds (e.row p s w over spells).holds e.limits.size q c.lawful-in-Done-2.ensures (record { kept = e.kept; store = c.give.ensures.store; maps = c.give.ensures.maps }) _ c.in-Done.answer
     (returns-in-Done-clause-makes g c s w x tells here turn.agrees turn.sound.tied same) room
@@ -364,7 +364,7 @@ returns-in-NoRoom-clause-idle g c = λ s w x here turn live same call fit none.
       | inr short ↦ elim ((c.act.ensures.row p s w over spells).short none) [
         | inl i ↦ i
         | inr run ↦ absurd
-            (let more = short_at p s w x c.lawful.ensures turn.agrees.set here.stands live turn.sound c.args.arguments c.args.next c.args.cpu.now same _ c.args.pid turn.turn
+            (let more = short_at p s w x c.lawful.ensures turn.agrees.set here.stands live turn.sound turn.wordless c.args.arguments c.args.next c.args.cpu.now same _ c.args.pid turn.turn
             (record { there = here.process; call = call; step = c.requires.can_step; ready = c.requires.aimed; keeps = c.ids.ensures ∙ ap segments_of c.call_need-need.ensures })
             (unrefused_by c.args.arguments.request (ruling_of c.args.arguments.request (known_of s w) c.args.pid c.args.cpu.now) c.act.result
             (c.act.ensures.row p s w over spells).answer short.unrefused)
@@ -385,7 +385,7 @@ returns-in-SwapFull-clause-idle g c = λ s w x here turn live same call fit none
       | inr short ↦ elim ((c.act.ensures.row p s w over spells).short none) [
         | inl i ↦ i
         | inr run ↦ absurd
-            (let more = short_at p s w x c.lawful.ensures turn.agrees.set here.stands live turn.sound c.args.arguments c.args.next c.args.cpu.now same _ c.args.pid turn.turn
+            (let more = short_at p s w x c.lawful.ensures turn.agrees.set here.stands live turn.sound turn.wordless c.args.arguments c.args.next c.args.cpu.now same _ c.args.pid turn.turn
             (record { there = here.process; call = call; step = c.requires.can_step; ready = c.requires.aimed; keeps = c.ids.ensures ∙ ap segments_of c.call_need-need.ensures })
             (unrefused_by c.args.arguments.request (ruling_of c.args.arguments.request (known_of s w) c.args.pid c.args.cpu.now) c.act.result
             (c.act.ensures.row p s w over spells).answer short.unrefused)
@@ -406,7 +406,7 @@ returns-in-SwapFault-clause-idle g c = λ s w x here turn live same call fit non
       | inr short ↦ elim ((c.act.ensures.row p s w over spells).short none) [
         | inl i ↦ i
         | inr run ↦ absurd
-            (let more = short_at p s w x c.lawful.ensures turn.agrees.set here.stands live turn.sound c.args.arguments c.args.next c.args.cpu.now same _ c.args.pid turn.turn
+            (let more = short_at p s w x c.lawful.ensures turn.agrees.set here.stands live turn.sound turn.wordless c.args.arguments c.args.next c.args.cpu.now same _ c.args.pid turn.turn
             (record { there = here.process; call = call; step = c.requires.can_step; ready = c.requires.aimed; keeps = c.ids.ensures ∙ ap segments_of c.call_need-need.ensures })
             (unrefused_by c.args.arguments.request (ruling_of c.args.arguments.request (known_of s w) c.args.pid c.args.cpu.now) c.act.result
             (c.act.ensures.row p s w over spells).answer short.unrefused)
@@ -427,7 +427,7 @@ returns-in-Done-clause-idle g c = λ s w x here turn live same call fit none.
       | inr short ↦ elim ((c.act.ensures.row p s w over spells).short none) [
         | inl i ↦ record { device = i.device; none = subst NoneTaken (sym (ap (λ (z : Shelf). z.swap) c.give.ensures.store.store)) i.none }
         | inr run ↦ absurd
-            (let more = short_at p s w x c.lawful.ensures turn.agrees.set here.stands live turn.sound c.args.arguments c.args.next c.args.cpu.now same _ c.args.pid turn.turn
+            (let more = short_at p s w x c.lawful.ensures turn.agrees.set here.stands live turn.sound turn.wordless c.args.arguments c.args.next c.args.cpu.now same _ c.args.pid turn.turn
             (record { there = here.process; call = call; step = c.requires.can_step; ready = c.requires.aimed; keeps = c.ids.ensures ∙ ap segments_of c.call_need-need.ensures })
             (unrefused_by c.args.arguments.request (ruling_of c.args.arguments.request (known_of s w) c.args.pid c.args.cpu.now) c.act.result
             (c.act.ensures.row p s w over spells).answer short.unrefused)

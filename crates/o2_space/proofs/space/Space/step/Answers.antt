@@ -8,8 +8,12 @@ use Rattle.o2_world.specs.Known.{known_of}
 use Rattle.o2_world.specs.Holders.{process_at}
 use Rattle.o2_world.specs.Run.{before}
 use Rattle.o2_stands.specs.Parts.{Parts}
-use Rattle.o2_run.specs.Pieces.{Counts, PartHands, counts}
-use Rattle.o2_stepping.specs.Rooms.{all_names, needed_names, room_in}
+use Rattle.o2_run.specs.Pieces.{Counts, told_counts}
+use Rattle.o2_isa.specs.declared.cpu.Cpu.{Cpu}
+use Rattle.o2_stepping.specs.Pieces.{StepPart}
+use Rattle.o2_stepping.specs.Rooms.{all_names, needed_names, room_in, whole_names}
+use Rattle.o2_stepping.specs.Seated.{HasWholeSeats}
+use Rattle.o2_space.proofs.Seating.{whole_seats}
 use Rattle.o2_stepping.specs.Taken.{OnDone, OnBegun, OnSwapStop, Takes}
 use Rattle.o2_stepping.specs.Worlds.{away_of, bytes_with}
 use Rattle.o2_stepping.proofs.Worlds.{same_map}
@@ -70,12 +74,13 @@ returns-clause-room g c = λ text may s w x tells begins same.
     (subst (λ (z : Before). OnDone result (room_in m.store (all_names z (bound_registers (hold_in new.regions pid) new.cpu)) ≤ m.store.places.size)) is (e.room w.input (known_of s w) tells))
 
 pub returns-clause-no_room : goal.returns-clause-no_room
-returns-clause-no_room g c = λ s w x tells here same.
+returns-clause-no_room g c = λ s w x tells here same alive sound.
     let S = g.S.SwapDevice in
     let m = c.args.self.now in
     let p : Parts = parts_in m (S.blocks c.args.swap.now) (S.block c.args.swap.now) in
-    subst (λ (z : Before). OnSwapStop c.step_in_store-result.result (m.store.places.size < room_in m.store (needed_names z)) (Unit {0}) (Unit {0}))
-    (before_is p w c.lawful.ensures here.stands s c.args.pid x c.args.cpu.now here.process same) (c.step_in_store-result.ensures.no_room w.input (known_of s w) tells)
+    let whole = subst (λ (r : Cpu). HasWholeSeats m.store m.regions c.args.pid r) (sym same) (whole_seats p w x c.args.pid here.stands here.process alive sound) in
+    subst (λ (z : Before). OnSwapStop c.step_in_store-result.result (m.store.places.size < room_in m.store (whole_names m.store (needed_names z))) (Unit {0}) (Unit {0}))
+    (before_is p w c.lawful.ensures here.stands s c.args.pid x c.args.cpu.now here.process same) (c.step_in_store-result.ensures.no_room whole w.input (known_of s w) tells)
 
 pub returns-clause-together : goal.returns-clause-together
 returns-clause-together g c =
@@ -120,12 +125,12 @@ returns-clause-part g c = λ text may s w x tells begins same.
     let R = g.R.Sink in
     let new = c.step_in_store-result.new in
     let p : Parts = parts_in c.args.self.now (S.blocks c.args.swap.now) (S.block c.args.swap.now) in
-    let n : Counts = counts (C.puts c.args.console.now) (C.puts new.console) (R.puts c.args.report.now) (R.puts new.report) 0 in
-    subst (λ (z : Before). PartHands (effect z) n c.step_in_store-result.result)
+    let n : Counts = told_counts (C.puts c.args.console.now) (C.puts new.console) (R.puts c.args.report.now) (R.puts new.report) 0 (R.taken c.args.report.now) (R.taken new.report) in
+    subst (λ (z : Before). StepPart (effect z) n c.step_in_store-result.result)
     (before_is p w c.lawful.ensures begins.here.stands s c.args.pid x c.args.cpu.now begins.here.process same) (c.step_in_store-result.ensures.part text may w.input (known_of s w) tells begins.input begins.known)
 
 pub returns-clause-next_room : goal.returns-clause-next_room
-returns-clause-next_room g c = λ text may s w x tells begins same set chosen.
+returns-clause-next_room g c = λ text may s w x tells begins same set alive sound wordless chosen.
     let S = g.S.SwapDevice in
     let m = c.args.self.now in
     let pid = c.args.pid in
@@ -136,16 +141,16 @@ returns-clause-next_room g c = λ text may s w x tells begins same set chosen.
     let old_bytes : ℕ → List ℕ = bytes_with (away_of m.store m.regions m.images (S.blocks c.args.swap.now) (S.block c.args.swap.now)) m.store in
     let new_bytes : ℕ → List ℕ = bytes_with (away_of new.store new.regions m.images (S.blocks new.swap) (S.block new.swap)) new.store in
     let is = before_is p w c.lawful.ensures begins.here.stands s pid x c.args.cpu.now begins.here.process same in
-    says_room p s w x (record { lawful = c.lawful.ensures; set = set; stands = begins.here.stands; chosen = ap (process_at w.processes) chosen ∙ begins.here.process }) new.cpu old_bytes new_bytes _ _ _ _ _ _ result pid (sym chosen)
+    says_room p s w x (record { lawful = c.lawful.ensures; set = set; stands = begins.here.stands; chosen = ap (process_at w.processes) chosen ∙ begins.here.process; wordless = wordless }) new.cpu old_bytes new_bytes _ _ _ _ _ _ result pid (sym chosen)
     (subst (λ (z : Before). Takes z (effect z) new.cpu old_bytes new_bytes (left_as text (g.I.Source.left c.args.input.now) (g.I.Source.past c.args.input.now)) (left_as text (g.I.Source.left new.input) (g.I.Source.past new.input))
     (g.C.Sink.taken c.args.console.now) (g.C.Sink.taken new.console) (g.R.Sink.taken c.args.report.now) (g.R.Sink.taken new.report) result) is (e.takes_as text may w.input (known_of s w) tells begins.input begins.known))
     (returns-clause-room g c text may s w x tells begins same) (returns-clause-room_in_part g c text may s w x tells begins same)
-    (returns-clause-no_room g c s w x tells begins.here same) e.loads
+    (returns-clause-no_room g c s w x tells begins.here same alive sound) e.loads
 
 pub returns-clause-idle : goal.returns-clause-idle
-returns-clause-idle g c = λ s w stands set fit none.
+returns-clause-idle g c = λ s w stands set wordless fit none.
     let S = g.S.SwapDevice in
-    let least = live_least (parts_in c.args.self.now (S.blocks c.args.swap.now) (S.block c.args.swap.now)) s w c.lawful.ensures set stands in
+    let least = live_least (parts_in c.args.self.now (S.blocks c.args.swap.now) (S.block c.args.swap.now)) s w c.lawful.ensures set stands wordless in
     let memory = set.memory in
     c.step_in_store-result.ensures.idle none (omega (arith, least, memory, fit))
 
