@@ -43,11 +43,11 @@ place_bytes (Image m k) = word m ++ word k
 place_bytes (Memory base) = long base
 place_bytes (Swap bs) = long (length bs) ++ flat_map block_bytes bs
 
--- a segment: size, kept bytes, flags, lock, whether it is clean, the number of its place, and its place
+-- a segment: size, kept bytes, flags, lock, whether it is clean, the number of its place, whether it was discarded, and its place
 abbrev pub segment_bytes : SegmentEntry → List ℕ
 segment_bytes e =
     long e.size ++ long e.kept
-    ++ (e.flags ∷ e.lock ∷ bit e.clean ∷ place_number e.place ∷ [])
+    ++ (e.flags ∷ e.lock ∷ bit e.clean ∷ place_number e.place ∷ bit e.gone ∷ [])
     ++ place_bytes e.place
 
 -- what a process holds: index, descriptor, number of the segment, number of holds
@@ -74,7 +74,7 @@ process_bytes p =
 -- follow, steps and console bytes
 abbrev pub head_bytes : Core → List ℕ
 head_bytes c =
-    codes "OS2CORE1" ++ long (length c.memory) ++ long c.blocks
+    codes "OS2CORE2" ++ long (length c.memory) ++ long c.blocks
     ++ long (length c.segments) ++ long (length c.processes) ++ quad c.steps ++ quad c.console
 
 -- the whole image: its head, the segments, the memory, the processes, and the end mark

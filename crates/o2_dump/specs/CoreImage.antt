@@ -1,6 +1,6 @@
 -- A core image: what a machine consisted of as it was written.
-use Rattle.std.specs.Prelude.{ℕ, ◌+◌, ◌-◌, ◌==◌, Bool, List, [], ◌∷◌, ◌++◌, drop, flat_map, length, min, option_map, Option, replicate, slice_get, take, Result, Ok, codes, bytes_eq}
-use Rattle.o2_ne.specs.Words.{long_at, string_at}
+use Rattle.std.specs.Prelude.{ℕ, ◌+◌, ◌-◌, ◌==◌, ◌||◌, if◌then◌else◌, Bool, List, [], ◌∷◌, ◌++◌, drop, flat_map, length, min, option_map, Option, replicate, slice_get, take, Result, Ok, codes, bytes_eq}
+use Rattle.o2_ne.specs.Words.{byte_at, long_at, string_at}
 use Rattle.o2_ne.specs.Checks.{Check, all_hold, or_fault, ◌>>=◌}
 use Rattle.o2_ne.specs.Steps.{steps}
 use Rattle.o2_dump.specs.declared.reader.Core.{Core}
@@ -15,8 +15,16 @@ use Rattle.o2_dump.specs.SegmentEntries.{SegmentsSoFar, segment_step}
 use Rattle.o2_dump.specs.ProcessEntries.{ProcessesSoFar, process_step}
 
 -- the first eight bytes of the file, as far as it has them, are the mark's
+abbrev pub begins_as : List ℕ → List ℕ → Bool
+begins_as mark file = bytes_eq (take (min (length file) 8) file) (take (min (length file) 8) mark)
+
+-- the mark of the first form, or of the second one, whose entries tell of discarded segments
 abbrev pub is_marked : List ℕ → Bool
-is_marked file = bytes_eq (take (min (length file) 8) file) (take (min (length file) 8) (codes "OS2CORE1"))
+is_marked file = begins_as (codes "OS2CORE1") file || begins_as (codes "OS2CORE2") file
+
+-- how long the fields of a segment's entry are, by the last byte of the mark
+abbrev pub fields_of : List ℕ → ℕ
+fields_of file = if byte_at file 7 == 50 then 13 else 12
 
 -- the head: the mark; sizes of the memory and of the swap device in blocks; the numbers of segments and of processes; steps
 -- and console bytes
@@ -25,7 +33,7 @@ head_checks file = or_fault (is_marked file) NotCore ∷ whole file 0 40 ∷ []
 
 abbrev pub segments_of : List ℕ → Result SegmentsSoFar CoreFault
 segments_of file =
-    steps (segment_step file (long_at file 8) (long_at file 12)) (long_at file 16) (record { found = []; place = 40 })
+    steps (segment_step file (fields_of file) (long_at file 8) (long_at file 12)) (long_at file 16) (record { found = []; place = 40 })
 
 -- the processes whose entries begin at place p
 abbrev pub processes_of : List ℕ → ℕ → Result ProcessesSoFar CoreFault

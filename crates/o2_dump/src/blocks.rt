@@ -47,7 +47,7 @@ fn check_block(
     Ok(())
 }
 
-// The next block of the entry at `entry`.
+// The next block of the entry at `entry`, the number of whose blocks stands at `behind`.
 #[tactic(auto, unfolding(crate::specs::SegmentEntries::block_step))]
 fn add_block(
     alloc: Global,
@@ -55,14 +55,16 @@ fn add_block(
     blocks: u32,
     found: &Found,
     entry: usize,
+    behind: usize,
     own: &mut Vec<Block>,
 ) -> Result<(), Fail<CoreFault>>
-    requires place { entry + 16 + 516 * vec_len own.old ≤ length file.now }
-    ensures step { Gives (λ _. own.new.items) result (block_step file.now blocks found.now entry own.old.items) }
+    requires entry { entry ≤ behind }
+    requires place { behind + 4 + 516 * vec_len own.old ≤ length file.now }
+    ensures step { Gives (λ _. own.new.items) result (block_step file.now blocks found.now entry behind own.old.items) }
     ensures more { OnOk result (vec_len own.new ≡ vec_len own.old + 1) }
-    ensures inside { OnOk result (entry + 16 + 516 * vec_len own.new ≤ length file.now) }
+    ensures inside { OnOk result (behind + 4 + 516 * vec_len own.new ≤ length file.now) }
 {
-    let at = entry + 16 + 516 * own.len();
+    let at = behind + 4 + 516 * own.len();
     check_block(file, blocks, found, entry, own.as_slice(), at)?;
     let number = u32_at(file, at);
     let bytes = Bytes::from_slice(alloc, &file[at + 4..at + 516])?;
@@ -77,16 +79,18 @@ pub(crate) fn blocks_of(
     blocks: u32,
     found: &Found,
     entry: usize,
+    behind: usize,
     count: u32,
 ) -> Result<Vec<Block>, Fail<CoreFault>>
-    requires place { entry + 16 ≤ length file.now }
-    ensures exact { Gives (λ v. v.items) result (steps (block_step file.now blocks found.now entry) count []) }
-    ensures inside { IfOk result (λ v. entry + 16 + 516 * length v.items ≤ length file.now) }
+    requires entry { entry ≤ behind }
+    requires place { behind + 4 ≤ length file.now }
+    ensures exact { Gives (λ v. v.items) result (steps (block_step file.now blocks found.now entry behind) count []) }
+    ensures inside { IfOk result (λ v. behind + 4 + 516 * length v.items ≤ length file.now) }
     ensures count { IfOk result (λ v. length v.items ≡ count) }
 {
     let mut own = Vec::new(alloc);
     for _ in 0..count {
-        add_block(alloc, file, blocks, found, entry, &mut own)?;
+        add_block(alloc, file, blocks, found, entry, behind, &mut own)?;
     }
     Ok(own)
 }

@@ -5,7 +5,7 @@ use o2_base::Fail;
 /// Why a file is refused as a core image. Faults are found in the order of the bytes.
 #[derive(Clone, Copy, Debug, PartialEq, Eq)]
 pub enum CoreFault {
-    /// One of the first eight bytes is in the file and isn't that of `OS2CORE1`.
+    /// One of the first eight bytes is in the file and isn't that of `OS2CORE1` or `OS2CORE2`.
     NotCore,
     /// The file ends within a field. The place is the file's length.
     Truncated(u64),

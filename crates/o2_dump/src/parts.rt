@@ -73,6 +73,8 @@ pub struct SegmentEntry {
     pub lock: u8,
     /// Whether its bytes are those of its image.
     pub clean: bool,
+    /// Whether it was discarded, so that all its bytes are zeros.
+    pub gone: bool,
     /// Where its kept bytes are.
     pub place: Place,
 }

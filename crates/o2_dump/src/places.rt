@@ -22,30 +22,39 @@ fn is_range(memory: u32, found: &Found, base: u32, size: u32) -> bool
     u64::from(base) + rounded(size) <= u64::from(memory) && found.is_free(base, size)
 }
 
-// The place in an image of the entry at a place.
+// What follows the fields of the entry at a place stands behind them, at `behind`.
+
+// The place in an image of an entry.
 #[tactic(auto, unfolding(crate::specs::SegmentEntries::image_at))]
-fn image_at(file: &[u8], at: usize) -> Result<Place, CoreFault>
-    requires place { at + 12 ≤ length file.now }
-    ensures exact { result ≡ image_at file.now at }
-    ensures inside { IfOk result (λ p. at + 12 + place_len p ≤ length file.now) }
+fn image_at(file: &[u8], behind: usize) -> Result<Place, CoreFault>
+    requires place { behind ≤ length file.now }
+    ensures exact { result ≡ image_at file.now behind }
+    ensures inside { IfOk result (λ p. behind + place_len p ≤ length file.now) }
     ensures free { IfOk result (λ p. (found : List SegmentEntry) (n : ℕ) → fits found n p ≡ true) }
 {
-    need(file, at + 12, 4)?;
-    let number = u16_at(file, at + 12);
-    let segment = u16_at(file, at + 14);
+    need(file, behind, 4)?;
+    let number = u16_at(file, behind);
+    let segment = u16_at(file, behind + 2);
     Ok(Place::Image(number, segment))
 }
 
 // The place in memory of the entry at a place.
 #[tactic(auto, unfolding(crate::specs::SegmentEntries::memory_at))]
-fn memory_at(file: &[u8], memory: u32, found: &Found, at: usize) -> Result<Place, CoreFault>
-    requires place { at + 12 ≤ length file.now }
-    ensures exact { result ≡ memory_at file.now memory found.now at }
-    ensures inside { IfOk result (λ p. at + 12 + place_len p ≤ length file.now) }
+fn memory_at(
+    file: &[u8],
+    memory: u32,
+    found: &Found,
+    at: usize,
+    behind: usize,
+) -> Result<Place, CoreFault>
+    requires place { at + 12 ≤ behind }
+    requires fields { behind ≤ length file.now }
+    ensures exact { result ≡ memory_at file.now memory found.now at behind }
+    ensures inside { IfOk result (λ p. behind + place_len p ≤ length file.now) }
     ensures free { IfOk result (λ p. fits found.now (long_at file.now at) p ≡ true) }
 {
-    need(file, at + 12, 4)?;
-    let base = u32_at(file, at + 12);
+    need(file, behind, 4)?;
+    let base = u32_at(file, behind);
     if !is_range(memory, found, base, u32_at(file, at)) {
         return Err(CoreFault::BadEntry(at as u64));
     }
@@ -53,13 +62,14 @@ fn memory_at(file: &[u8], memory: u32, found: &Found, at: usize) -> Result<Place
 }
 
 // How many blocks the entry at a place has, where these are as many as its kept bytes need.
-fn count_at(file: &[u8], at: usize) -> Result<u32, CoreFault>
-    requires place { at + 12 ≤ length file.now }
-    ensures exact { result ≡ count_at file.now at }
-    ensures inside { OnOk result (at + 16 ≤ length file.now) }
+fn count_at(file: &[u8], at: usize, behind: usize) -> Result<u32, CoreFault>
+    requires place { at + 12 ≤ behind }
+    requires fields { behind ≤ length file.now }
+    ensures exact { result ≡ count_at file.now at behind }
+    ensures inside { OnOk result (behind + 4 ≤ length file.now) }
 {
-    need(file, at + 12, 4)?;
-    let count = u32_at(file, at + 12);
+    need(file, behind, 4)?;
+    let count = u32_at(file, behind);
     if u64::from(count) != (u64::from(u32_at(file, at + 4)) + 511) / 512 {
         return Err(CoreFault::BadEntry(at as u64));
     }
@@ -74,14 +84,16 @@ fn swap_at(
     blocks: u32,
     found: &Found,
     at: usize,
+    behind: usize,
 ) -> Result<Place, Fail<CoreFault>>
-    requires place { at + 12 ≤ length file.now }
-    ensures exact { Gives (λ p. p) result (swap_at file.now blocks found.now at) }
-    ensures inside { IfOk result (λ p. at + 12 + place_len p ≤ length file.now) }
+    requires place { at + 12 ≤ behind }
+    requires fields { behind ≤ length file.now }
+    ensures exact { Gives (λ p. p) result (swap_at file.now blocks found.now at behind) }
+    ensures inside { IfOk result (λ p. behind + place_len p ≤ length file.now) }
     ensures free { IfOk result (λ p. (n : ℕ) → fits found.now n p ≡ true) }
 {
-    let count = count_at(file, at)?;
-    let own = blocks_of(alloc, file, blocks, found, at, count)?;
+    let count = count_at(file, at, behind)?;
+    let own = blocks_of(alloc, file, blocks, found, at, behind, count)?;
     Ok(Place::Swap(Blocks::new(own)))
 }
 
@@ -94,16 +106,18 @@ pub(crate) fn place_at(
     blocks: u32,
     found: &Found,
     at: usize,
+    behind: usize,
 ) -> Result<Place, Fail<CoreFault>>
-    requires place { at + 12 ≤ length file.now }
-    ensures exact { Gives (λ p. p) result (place_at file.now memory blocks found.now at) }
-    ensures inside { IfOk result (λ p. at + 12 + place_len p ≤ length file.now) }
+    requires place { at + 12 ≤ behind }
+    requires fields { behind ≤ length file.now }
+    ensures exact { Gives (λ p. p) result (place_at file.now memory blocks found.now at behind) }
+    ensures inside { IfOk result (λ p. behind + place_len p ≤ length file.now) }
     ensures free { IfOk result (λ p. fits found.now (long_at file.now at) p ≡ true) }
 {
     match file[at + 11] {
         0 => Ok(Place::Zeros),
-        1 => Ok(image_at(file, at)?),
-        2 => Ok(memory_at(file, memory, found, at)?),
-        _ => swap_at(alloc, file, blocks, found, at),
+        1 => Ok(image_at(file, behind)?),
+        2 => Ok(memory_at(file, memory, found, at, behind)?),
+        _ => swap_at(alloc, file, blocks, found, at, behind),
     }
 }

@@ -3,7 +3,7 @@ ghost use Rattle.std.specs.Prelude.{◌≡◌, ◌+◌, ◌≤◌, ◌<◌, leng
 ghost use Rattle.o2_ne.specs.Checks.{all_hold};
 ghost use Rattle.o2_ne.specs.Steps.{Gives};
 ghost use Rattle.o2_dump.specs.Readings.{processes_so_far, segments_so_far};
-ghost use Rattle.o2_dump.specs.CoreImage.{core_of, end_checks, has_end, head_checks, is_marked, processes_of, segment_bytes, segments_of};
+ghost use Rattle.o2_dump.specs.CoreImage.{begins_as, core_of, end_checks, fields_of, has_end, head_checks, is_marked, processes_of, segment_bytes, segments_of};
 
 use crate::content::bytes_of;
 use crate::fault::CoreFault;
@@ -33,14 +33,29 @@ pub struct Core {
     pub processes: Processes,
 }
 
-// Whether the first eight bytes of a file are the mark's, as far as it has them.
+// Whether the first eight bytes of a file are those of a mark, as far as it has them.
 fn is_marked(file: &[u8]) -> bool
     ensures { result ≡ is_marked file.now }
 {
-    let mark = b"OS2CORE1".as_slice();
+    begins_as(b"OS2CORE1", file) || begins_as(b"OS2CORE2", file)
+}
+
+// Whether they are those of this mark.
+fn begins_as(mark: &[u8; 8], file: &[u8]) -> bool
+    ensures { result ≡ begins_as mark.now file.now }
+{
     let told = file.len().min(8);
     let front = &file[..told];
     front == &mark[..told]
+}
+
+// How long the fields of a segment's entry are, in a file with a head.
+fn fields_of(file: &[u8]) -> usize
+    requires { 40 ≤ length file.now }
+    ensures fields { result ≡ fields_of file.now }
+    ensures few { (12 ≤ result) × (result ≤ 13) }
+{
+    if file[7] == b'2' { 13 } else { 12 }
 }
 
 // Whether a file begins as a core image and has a head.
@@ -68,6 +83,7 @@ fn segments_of(alloc: Global, file: &[u8]) -> Result<SegmentReading, Fail<CoreFa
     reading.all(
         alloc,
         file,
+        fields_of(file),
         u32_at(file, 8),
         u32_at(file, 12),
         u32_at(file, 16),

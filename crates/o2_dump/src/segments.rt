@@ -5,7 +5,7 @@ ghost use Rattle.o2_ne.specs.Steps.{Gives, steps};
 ghost use Rattle.o2_ne.specs.Words.{long_at};
 ghost use Rattle.o2_dump.specs.FoundIndex.{fits};
 ghost use Rattle.o2_dump.specs.Readings.{segments_so_far};
-ghost use Rattle.o2_dump.specs.SegmentEntries.{entry_checks, entry_of, is_place, place_len, segment_step};
+ghost use Rattle.o2_dump.specs.SegmentEntries.{entry_checks, entry_of, gone_at, is_gone_right, is_place, place_len, segment_step};
 
 use crate::fault::CoreFault;
 use crate::fields::need;
@@ -29,11 +29,27 @@ fn is_place(number: u8, kept: u32, size: u32) -> bool
     }
 }
 
+// Whether a segment may be marked as discarded by this byte.
+fn is_gone_right(gone: u8, number: u8, flags: u8, lock: u8) -> bool
+    ensures { result ≡ is_gone_right gone number flags lock }
+{
+    gone == 0 || (gone == 1 && (number == 0 && (flags / 4 % 2 == 1 && lock == 0)))
+}
+
+// The mark of the entry at a place, whose fields are so long.
+fn gone_at(file: &[u8], fields: usize, at: usize) -> u8
+    requires { at + fields ≤ length file.now }
+    ensures { result ≡ gone_at file.now fields at }
+{
+    if 12 < fields { file[at + 12] } else { 0 }
+}
+
 // Whether the fields of the entry at a place are right and whole.
-fn check_entry(file: &[u8], at: usize) -> Result<(), CoreFault>
+fn check_entry(file: &[u8], fields: usize, at: usize) -> Result<(), CoreFault>
     requires place { at ≤ length file.now }
-    ensures exact { result ≡ all_hold (entry_checks file.now at) }
-    ensures inside { OnOk result (at + 12 ≤ length file.now) }
+    requires few { (12 ≤ fields) × (fields ≤ 13) }
+    ensures exact { result ≡ all_hold (entry_checks file.now fields at) }
+    ensures inside { OnOk result (at + fields ≤ length file.now) }
     ensures long { OnOk result (1 ≤ long_at file.now at) }
 {
     need(file, at, 4)?;
@@ -52,6 +68,11 @@ fn check_entry(file: &[u8], at: usize) -> Result<(), CoreFault>
     }
     need(file, at + 11, 1)?;
     if !is_place(file[at + 11], kept, size) {
+        return Err(CoreFault::BadEntry(at as u64));
+    }
+    need(file, at, fields)?;
+    let gone = gone_at(file, fields, at);
+    if !is_gone_right(gone, file[at + 11], file[at + 8], file[at + 9]) {
         return Err(CoreFault::BadEntry(at as u64));
     }
     Ok(())
@@ -75,25 +96,28 @@ fn place_len(place: &Place) -> usize
 fn entry_of(
     alloc: Global,
     file: &[u8],
+    fields: usize,
     memory: u32,
     blocks: u32,
     found: &Found,
     at: usize,
 ) -> Result<SegmentEntry, Fail<CoreFault>>
     requires place { at ≤ length file.now }
-    ensures exact { Gives (λ e. e) result (entry_of file.now memory blocks found.now at) }
-    ensures inside { IfOk result (λ e. at + 12 + place_len e.place ≤ length file.now) }
+    requires few { (12 ≤ fields) × (fields ≤ 13) }
+    ensures exact { Gives (λ e. e) result (entry_of file.now fields memory blocks found.now at) }
+    ensures inside { IfOk result (λ e. at + fields + place_len e.place ≤ length file.now) }
     ensures long { IfOk result (λ e. 1 ≤ e.size) }
     ensures free { IfOk result (λ e. fits found.now e.size e.place ≡ true) }
 {
-    check_entry(file, at)?;
-    let place = place_at(alloc, file, memory, blocks, found, at)?;
+    check_entry(file, fields, at)?;
+    let place = place_at(alloc, file, memory, blocks, found, at, at + fields)?;
     Ok(SegmentEntry {
         size: u32_at(file, at),
         kept: u32_at(file, at + 4),
         flags: file[at + 8],
         lock: file[at + 9],
         clean: file[at + 10] == 1,
+        gone: gone_at(file, fields, at) == 1,
         place,
     })
 }
@@ -112,16 +136,18 @@ impl SegmentReading {
         self,
         alloc: Global,
         file: &[u8],
+        fields: usize,
         memory: u32,
         blocks: u32,
     ) -> Result<SegmentReading, Fail<CoreFault>>
         requires place { self.place ≤ length file.now }
-        ensures step { Gives (λ r. segments_so_far r) result (segment_step file.now memory blocks (segments_so_far self)) }
+        requires few { (12 ≤ fields) × (fields ≤ 13) }
+        ensures step { Gives (λ r. segments_so_far r) result (segment_step file.now fields memory blocks (segments_so_far self)) }
         ensures inside { IfOk result (λ r. r.place ≤ length file.now) }
     {
         let SegmentReading { found, place } = self;
-        let entry = entry_of(alloc, file, memory, blocks, &found, place)?;
-        let place = place + 12 + place_len(&entry.place);
+        let entry = entry_of(alloc, file, fields, memory, blocks, &found, place)?;
+        let place = place + fields + place_len(&entry.place);
         let found = found.with(entry)?;
         Ok(SegmentReading { found, place })
     }
@@ -131,17 +157,19 @@ impl SegmentReading {
         self,
         alloc: Global,
         file: &[u8],
+        fields: usize,
         memory: u32,
         blocks: u32,
         count: u32,
     ) -> Result<SegmentReading, Fail<CoreFault>>
         requires place { self.place ≤ length file.now }
-        ensures exact { Gives (λ r. segments_so_far r) result (steps (segment_step file.now memory blocks) count (segments_so_far self)) }
+        requires few { (12 ≤ fields) × (fields ≤ 13) }
+        ensures exact { Gives (λ r. segments_so_far r) result (steps (segment_step file.now fields memory blocks) count (segments_so_far self)) }
         ensures inside { IfOk result (λ r. r.place ≤ length file.now) }
     {
         let mut reading = self;
         for _ in 0..count {
-            reading = reading.next(alloc, file, memory, blocks)?;
+            reading = reading.next(alloc, file, fields, memory, blocks)?;
         }
         Ok(reading)
     }

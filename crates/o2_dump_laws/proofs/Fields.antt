@@ -115,6 +115,10 @@ pub eight_hold : {F : Type 0} (a b c d e f g h : Check F) → a.holds ≡ true �
     → g.holds ≡ true → h.holds ≡ true → all_hold (a ∷ b ∷ c ∷ d ∷ e ∷ f ∷ g ∷ h ∷ []) ≡ Ok tt
 eight_hold a b c d e f g h p q r s t u v w = rw (p, q, r, s, t, u, v, w) refl
 
+pub ten_hold : {F : Type 0} (a b c d e f g h i j : Check F) → a.holds ≡ true → b.holds ≡ true → c.holds ≡ true → d.holds ≡ true → e.holds ≡ true → f.holds ≡ true
+    → g.holds ≡ true → h.holds ≡ true → i.holds ≡ true → j.holds ≡ true → all_hold (a ∷ b ∷ c ∷ d ∷ e ∷ f ∷ g ∷ h ∷ i ∷ j ∷ []) ≡ Ok tt
+ten_hold a b c d e f g h i j p q r s t u v w x y = rw (p, q, r, s, t, u, v, w, x, y) refl
+
 -- what passes its checks, and comes to a value
 pub passes : {S F : Type 0} (r : Result (Unit {0}) F) (a b : S) → r ≡ Ok tt → a ≡ b → (r >>= (λ _. Ok a)) ≡ Ok b
 passes r a b e f = rw e (ap Ok f)

@@ -1,5 +1,5 @@
 -- An image is read back.
-use Rattle.std.proofs.Common.{◌≡◌, ℕ, ◌+◌, true, List, [], ◌∷◌, ◌++◌, length, take, min, Ok, refl, ap, ◌∙◌, append_assoc, eq-eqb, arith}
+use Rattle.std.proofs.Common.{◌≡◌, ℕ, ◌+◌, ◌==◌, ◌||◌, if◌then◌else◌, Bool, true, false, List, [], ◌∷◌, ◌++◌, length, take, min, Ok, refl, ap, ◌∙◌, append_assoc, eq-eqb, arith}
 use Rattle.std.specs.Prelude.{bytes_eq, codes, flat_map}
 use Rattle.o2_ne.specs.Words.{long_at, string_at}
 use Rattle.o2_ne.specs.Checks.{all_hold}
@@ -8,12 +8,12 @@ use Rattle.o2_dump.specs.declared.parts.Process.{Process}
 use Rattle.o2_dump.specs.declared.parts.SegmentEntry.{SegmentEntry}
 use Rattle.o2_dump.specs.declared.reader.Core.{Core}
 use Rattle.o2_dump.specs.CoreBytes.{core_bytes, head_bytes, process_bytes, segment_bytes}
-use Rattle.o2_dump.specs.CoreImage.{core_of, end_checks, has_end, head_checks, is_marked, processes_of, segments_of}
+use Rattle.o2_dump.specs.CoreImage.{begins_as, core_of, end_checks, fields_of, has_end, head_checks, is_marked, processes_of, segments_of}
 use Rattle.o2_dump.specs.FileFields.{quad_at, whole}
 use Rattle.o2_dump.specs.SegmentEntries.{segment_step}
 use Rattle.o2_dump.specs.ProcessEntries.{process_step}
 use Rattle.o2_dump_laws.specs.Whole.{IsWhole}
-use Rattle.o2_dump_laws.proofs.Fields.{StandsAt, file_length, fits_in, goes_on, long_is, one_holds, quad_is, stands_next, string_is, three_hold, two_hold}
+use Rattle.o2_dump_laws.proofs.Fields.{StandsAt, byte_at_is, file_length, fits_in, goes_on, long_is, one_holds, quad_is, stands_next, string_is, three_hold, two_hold}
 use Rattle.o2_dump_laws.proofs.ProcessesRead.{number_behind, processes_run}
 use Rattle.o2_dump_laws.proofs.SegmentsRead.{segments_run}
 
@@ -84,17 +84,26 @@ module _ (c : Core) (ok : IsWhole c) where
   console_is : quad_at file 32 ≡ c.console
   console_is = quad_is file 0 32 32 c.console _ at_head refl refl refl refl refl refl refl refl refl ok.console
 
+  either : (b : Bool) → (b || true) ≡ true
+  either true = refl
+  either false = refl
+
+  fields_are : fields_of file ≡ 13
+  fields_are = ap (λ (n : ℕ). if n == 50 then 13 else 12) (byte_at_is file 0 7 7 50 _ at_head refl refl)
+
   head_holds : all_hold (head_checks file) ≡ Ok tt
   head_holds =
       let eight : min (length file) 8 ≡ 8 = omega (arith, file_ends) in
-      let marked : is_marked file ≡ true = ap (λ (n : ℕ). bytes_eq (take n file) (take n (codes "OS2CORE1"))) eight in
+      let second : begins_as (codes "OS2CORE2") file ≡ true = ap (λ (n : ℕ). bytes_eq (take n file) (take n (codes "OS2CORE2"))) eight in
+      let marked : is_marked file ≡ true = ap (λ (b : Bool). begins_as (codes "OS2CORE1") file || b) second ∙ either (begins_as (codes "OS2CORE1") file) in
       two_hold _ _ marked (fits_in file 0 40 (omega (arith, file_ends)))
 
   segments_are : segments_of file ≡ Ok (record { found = c.segments; place = segments_end })
   segments_are =
-      ap (λ (n : ℕ). steps (segment_step file n (long_at file 12)) (long_at file 16) (record { found = []; place = 40 })) memory_size
-      ∙ (ap (λ (n : ℕ). steps (segment_step file (length c.memory) n) (long_at file 16) (record { found = []; place = 40 })) blocks_are
-      ∙ (ap (λ (n : ℕ). steps (segment_step file (length c.memory) c.blocks) n (record { found = []; place = 40 })) segments_many
+      ap (λ (n : ℕ). steps (segment_step file n (long_at file 8) (long_at file 12)) (long_at file 16) (record { found = []; place = 40 })) fields_are
+      ∙ ap (λ (n : ℕ). steps (segment_step file 13 n (long_at file 12)) (long_at file 16) (record { found = []; place = 40 })) memory_size
+      ∙ (ap (λ (n : ℕ). steps (segment_step file 13 (length c.memory) n) (long_at file 16) (record { found = []; place = 40 })) blocks_are
+      ∙ (ap (λ (n : ℕ). steps (segment_step file 13 (length c.memory) c.blocks) n (record { found = []; place = 40 })) segments_many
       ∙ segments_run c.segments file 40 segments_end _ (length c.memory) c.blocks [] ok.each_segment at_segments refl))
 
   processes_are : processes_of file (segments_end + long_at file 8) ≡ Ok (record { found = c.processes; least = number_behind 0 c.processes; place = processes_end })

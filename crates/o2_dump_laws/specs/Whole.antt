@@ -8,8 +8,8 @@ use Rattle.o2_dump.specs.declared.parts.Place.TheVariants.{Zeros, Image, Memory,
 use Rattle.o2_dump.specs.declared.parts.Process.{Process}
 use Rattle.o2_dump.specs.declared.parts.SegmentEntry.{SegmentEntry}
 use Rattle.o2_dump.specs.declared.reader.Core.{Core}
-use Rattle.o2_dump.specs.CoreBytes.{place_number}
-use Rattle.o2_dump.specs.SegmentEntries.{blocks_for, is_block, is_place, is_range}
+use Rattle.o2_dump.specs.CoreBytes.{bit, place_number}
+use Rattle.o2_dump.specs.SegmentEntries.{blocks_for, is_block, is_gone_right, is_place, is_range}
 
 -- what a process holds at an index, not below a least one, of a machine with so many segments
 pub record IsHeldWhole (segments least : ℕ) (h : Held) : Type 0 where
@@ -78,6 +78,7 @@ pub record IsSegmentWhole (memory blocks : ℕ) (found : List SegmentEntry) (e :
   pub most : e.size ≤ 65536
   pub kept : e.kept ≤ e.size
   pub fits : is_place (place_number e.place) e.kept e.size ≡ true
+  pub gone : is_gone_right (bit e.gone) (place_number e.place) e.flags e.lock ≡ true
   pub place : IsPlaceWhole memory blocks found e.size e.kept e.place
 
 abbrev pub AreSegmentsWhole : (memory blocks : ℕ) → (found : List SegmentEntry) → List SegmentEntry → Type 0

@@ -121,15 +121,16 @@ module _ (s : Shelf) (pic : Pictures) (block : ℕ → List ℕ) (n : ℕ) (is_o
   pure_is (Some r) c = refl
 
   pub segment_is : (x : Segment) → length x.bytes ≡ e.size → ((j : ℕ) → j < e.size → get_or x.bytes j 0 ≡ byte_in s.memory (place_of s n) (out_byte s pic block n j) j)
-      → x.flags ≡ e.attr.flags → x.lock ≡ e.attr.lock → x.clean ≡ e.attr.clean → IsSegment pic s.memory (segment_told s block n) x
+      → x.flags ≡ e.attr.flags → x.lock ≡ e.attr.lock → x.clean ≡ e.attr.clean → x.discarded ≡ e.attr.gone → IsSegment pic s.memory (segment_told s block n) x
   unfolding segment_told
-  segment_is x size bytes flags lock clean = record {
+  segment_is x size bytes flags lock clean gone = record {
     size = size;
     kept = kept_is (place_of s n);
     bytes = λ j l. bytes j l ∙ byte_is (place_of s n) j l;
     flags = flags;
     lock = lock;
     clean = clean;
+    gone = gone;
     locked = λ l. locked_is (place_of s n) (is_one.locked l);
     pure = pure_is (place_of s n);
   }
@@ -140,7 +141,7 @@ named_one : (p : Parts) (n : ℕ) (o : Option Segment) → IsShelf p.shelf → I
     → IsNamed (picture p.images) p.shelf.memory (segment_told p.shelf p.block n) o
 named_one p n None shelf live named = named
 named_one p n (Some x) shelf live named =
-    segment_is p.shelf (picture p.images) p.block n (shelf.each n (below_all p.shelf n live)) x named.size named.bytes named.flags named.lock named.clean
+    segment_is p.shelf (picture p.images) p.block n (shelf.each n (below_all p.shelf n live)) x named.size named.bytes named.flags named.lock named.clean named.discarded
 
 pub named_is : (p : Parts) (n : ℕ) (o : Option Segment) → IsShelf p.shelf → IsSome (slot_at p.shelf.entries n) → key_of p.shelf (entry p.shelf n).age ≡ Some n
     → IsNamedThere p (key_of p.shelf (entry p.shelf n).age) o → IsNamed (picture p.images) p.shelf.memory (segment_told p.shelf p.block n) o

@@ -62,6 +62,7 @@ pub record IsSegment (pic : Pictures) (memory : List ℕ) (e : SegmentEntry) (s 
   pub flags : s.flags ≡ e.flags
   pub lock : s.lock ≡ e.lock
   pub clean : s.clean ≡ e.clean
+  pub gone : s.discarded ≡ e.gone
   pub locked : 0 < e.lock → is_some (base_of e.place) ≡ true
   pub pure : e.clean ≡ true → has_blocks e.place ≡ false
 

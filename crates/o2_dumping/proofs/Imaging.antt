@@ -13,7 +13,7 @@ many_processes s m pid (p ∷ ps) = ap (λ (n : ℕ). suc n) (many_processes s m
 
 abbrev pub head_of : Shelf → List Row → (blocks steps console : ℕ) → List ℕ
 head_of s ps blocks steps console =
-    codes "OS2CORE1" ++ long (length s.memory) ++ long blocks ++ long (length (numbers s)) ++ long (length ps) ++ quad steps ++ quad console
+    codes "OS2CORE2" ++ long (length s.memory) ++ long blocks ++ long (length (numbers s)) ++ long (length ps) ++ quad steps ++ quad console
 
 -- what follows the segments
 abbrev pub tail_of : Shelf → Maps → List Row → List ℕ
@@ -28,7 +28,7 @@ pub image_parts : (s : Shelf) (m : Maps) (ps : List Row) (block : ℕ → List �
 image_parts s m ps block blocks steps console =
     regroup (head_bytes (core_told s m ps block blocks steps console)) (flat_map segment_bytes (segments_told s block)) s.memory
     (flat_map process_bytes (processes_from s m 1 ps)) (codes "END!")
-    ∙ (ap (λ (n : ℕ). (codes "OS2CORE1" ++ long (length s.memory) ++ long blocks ++ long n ++ long (length (processes_from s m 1 ps)) ++ quad steps ++ quad console)
+    ∙ (ap (λ (n : ℕ). (codes "OS2CORE2" ++ long (length s.memory) ++ long blocks ++ long n ++ long (length (processes_from s m 1 ps)) ++ quad steps ++ quad console)
     ++ (flat_map segment_bytes (segments_told s block) ++ tail_of s m ps)) (length-map (numbers s) (segment_told s block))
-    ∙ ap (λ (n : ℕ). (codes "OS2CORE1" ++ long (length s.memory) ++ long blocks ++ long (length (numbers s)) ++ long n ++ quad steps ++ quad console)
+    ∙ ap (λ (n : ℕ). (codes "OS2CORE2" ++ long (length s.memory) ++ long blocks ++ long (length (numbers s)) ++ long n ++ quad steps ++ quad console)
     ++ (flat_map segment_bytes (segments_told s block) ++ tail_of s m ps)) (many_processes s m 1 ps))

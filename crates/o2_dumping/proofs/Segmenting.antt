@@ -64,7 +64,7 @@ place_splits there.Blocks bs n h = ap (λ (z : ℕ). long z ++ flat_map block_by
 pub entry_splits : (range : Option (ℕ × ℕ)) (e : Entry) (bs : List Block) (n : ℕ) → (shown_at range e ≡ there.Blocks → n ≡ length bs)
     → segment_bytes (entry_told range e bs) ≡ segment_front (shown_of range e) n ++ behind (shown_at range e) bs
 entry_splits range e bs n h =
-    let head : ℕ → List ℕ = λ (z : ℕ). long e.size ++ long (kept_of range e) ++ (e.attr.flags ∷ e.attr.lock ∷ bit e.attr.clean ∷ z ∷ []) in
+    let head : ℕ → List ℕ = λ (z : ℕ). long e.size ++ long (kept_of range e) ++ (e.attr.flags ∷ e.attr.lock ∷ bit e.attr.clean ∷ z ∷ bit e.attr.gone ∷ []) in
     ap (λ (z : ℕ). head z ++ place_bytes (place_told (shown_at range e) bs)) (same_number (shown_at range e) bs)
     ∙ (ap (λ (z : List ℕ). head (shown_number (shown_at range e)) ++ z) (place_splits (shown_at range e) bs n h)
     ∙ sym (append_assoc (head (shown_number (shown_at range e))) (place_front (shown_at range e) n) (behind (shown_at range e) bs)))

@@ -1,5 +1,5 @@
 -- The segments that are told keep the rules of the format.
-use Rattle.std.proofs.Common.{◌≡◌, ◌≢◌, ◌⊎◌, ℕ, zero, suc, ◌+◌, ◌*◌, ◌/◌, ◌<◌, ◌≤◌, ◌^◌, List, [], ◌∷◌, ◌++◌, length, get_or, Bool, true, false, cond, not, ◌&&◌, ◌||◌}
+use Rattle.std.proofs.Common.{◌≡◌, ◌≢◌, ◌⊎◌, ℕ, zero, suc, ◌+◌, ◌*◌, ◌/◌, ◌%◌, ◌<◌, ◌≤◌, ◌^◌, List, [], ◌∷◌, ◌++◌, length, get_or, Bool, true, false, cond, not, ◌&&◌, ◌||◌}
 use Rattle.std.proofs.Common.{Option, Some, None, IsSome, is_some, refl, sym, ap, ◌∙◌, map, subst, arith, inl, inr, append_assoc, length-append}
 use Rattle.std.specs.Prelude.{nat_le, nat_lt, ◌==◌}
 use Rattle.std.specs.List.{list_any}
@@ -8,8 +8,8 @@ use Rattle.std.proofs.lemmas.Bool.Decides.{nat_tests}
 use Rattle.std.proofs.lemmas.List.{get_or-append-add, length-map}
 use Rattle.o2_dump.specs.declared.parts.Block.{Block}
 use Rattle.o2_dump.specs.declared.parts.SegmentEntry.{SegmentEntry}
-use Rattle.o2_dump.specs.CoreBytes.{place_number}
-use Rattle.o2_dump.specs.SegmentEntries.{has_block, is_among, is_block, is_free, is_met_by, is_place, is_range, is_unused, rounded}
+use Rattle.o2_dump.specs.CoreBytes.{bit, place_number}
+use Rattle.o2_dump.specs.SegmentEntries.{has_block, is_among, is_block, is_free, is_gone_right, is_met_by, is_place, is_range, is_unused, rounded}
 use Rattle.o2_dump_laws.specs.Whole.{AreBlocksWhole, AreSegmentsWhole, IsPlaceWhole, IsSegmentWhole}
 use Rattle.o2_entries.specs.declared.Entry.{Entry}
 use Rattle.o2_entries.specs.Tables.{live_numbers, slot_at}
@@ -229,6 +229,14 @@ module _ (s : Shelf) (block : ℕ → List ℕ) (blocks : ℕ) (law : IsLawful s
       kept_fits None = at.kept
       kept_fits (Some r) = omega arith
 
+      -- a discarded one has no bytes anywhere
+      gone_fits : (b : Bool) → (entry s n).attr.gone ≡ b
+          → is_gone_right (bit b) (place_number (place_told (shown_at (place_of s n) (entry s n)) (blocks_told s block n))) (entry s n).attr.flags (entry s n).attr.lock ≡ true
+      gone_fits false e = refl
+      gone_fits true e =
+          let g = at.gone e in
+          rw (g.out, g.image, g.kept) (both ((entry s n).attr.flags / 4 % 2 == 1) ((entry s n).attr.lock == 0) g.kind.flag (eq-eqb (entry s n).attr.lock 0 g.kind.unlocked))
+
       -- the place of a segment that is out of memory
       out_fits : (o : Option (ℕ × ℕ)) → (entry s n).image ≡ o → is_place (place_number (place_told (shown_out o (entry s n).kept) (blocks_told s block n))) (entry s n).kept (entry s n).size ≡ true
       out_fits (Some p) is = refl
@@ -271,6 +279,7 @@ module _ (s : Shelf) (block : ℕ → List ℕ) (blocks : ℕ) (law : IsLawful s
         most = at.sized;
         kept = kept_fits (place_of s n);
         fits = place_fits (place_of s n);
+        gone = gone_fits (entry s n).attr.gone refl;
         place = place_whole (place_of s n) refl fits_n.place fits_n.blocks;
       }
 

@@ -27,5 +27,5 @@ place_front Blocks n = long n
 abbrev pub segment_front : Shown → ℕ → List ℕ
 segment_front s n =
     long s.size ++ long s.kept
-    ++ (s.attr.flags ∷ s.attr.lock ∷ bit s.attr.clean ∷ shown_number s.place ∷ [])
+    ++ (s.attr.flags ∷ s.attr.lock ∷ bit s.attr.clean ∷ shown_number s.place ∷ bit s.attr.gone ∷ [])
     ++ place_front s.place n

@@ -51,6 +51,7 @@ entry_told range e bs = record {
   flags = e.attr.flags;
   lock = e.attr.lock;
   clean = e.attr.clean;
+  gone = e.attr.gone;
   place = place_told (shown_at range e) bs;
 }
 

@@ -74,6 +74,7 @@ fn segment_piece(shown: &Shown, blocks: u32) -> Piece
     piece.push(shown.attr.lock);
     piece.push(if shown.attr.clean { 1 } else { 0 });
     piece.push(place_number(shown.place));
+    piece.push(if shown.attr.gone { 1 } else { 0 });
     push_place(&mut piece, shown.place, blocks);
     piece
 }

@@ -28,7 +28,7 @@ fn head_piece(machine: &Parts<'_>) -> Piece
     ensures blocks { machine.now.blocks < 2 ^ 32 }
     ensures steps { machine.now.steps < 2 ^ 64 }
     ensures console { machine.now.console < 2 ^ 64 }
-    ensures text { result ≡ codes "OS2CORE1" ++ long (length machine.now.store.now.memory) ++ long machine.now.blocks
+    ensures text { result ≡ codes "OS2CORE2" ++ long (length machine.now.store.now.memory) ++ long machine.now.blocks
         ++ long (length (numbers machine.now.store.now)) ++ long (length machine.now.processes.now)
         ++ quad machine.now.steps ++ quad machine.now.console }
     // Whatever the blocks hold, the segments of what is told lie apart.
@@ -38,7 +38,7 @@ fn head_piece(machine: &Parts<'_>) -> Piece
 {
     machine.store.law();
     let mut piece = Piece::new();
-    piece.push_all(b"OS2CORE1");
+    piece.push_all(b"OS2CORE2");
     piece.push_long(machine.store.memory().len() as u32);
     piece.push_long(machine.blocks);
     piece.push_long(machine.store.live());

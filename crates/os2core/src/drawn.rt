@@ -11,6 +11,8 @@ pub struct Drawn {
     pub number: u32,
     /// How many bytes it has.
     pub size: u32,
+    /// Whether it was discarded.
+    pub discarded: bool,
     /// Its first holder, by the numbers of processes and the selectors; none where no process holds it.
     pub holder: Option<Holder>,
 }
@@ -27,9 +29,9 @@ impl Drawn {
 
 /// The segment of a number, where segments are held so.
 pub fn one_of(core: &Core, holders: &[Holder], number: u32) -> Drawn {
-    let size = match core.segments.as_slice().get(number as usize) {
-        Some(entry) => entry.size,
-        None => 0,
+    let (size, discarded) = match core.segments.as_slice().get(number as usize) {
+        Some(entry) => (entry.size, entry.gone),
+        None => (0, false),
     };
     let holder = match of_segment(holders, number) {
         [first, ..] => Some(*first),
@@ -38,6 +40,7 @@ pub fn one_of(core: &Core, holders: &[Holder], number: u32) -> Drawn {
     Drawn {
         number,
         size,
+        discarded,
         holder,
     }
 }
@@ -69,6 +72,21 @@ impl fmt::Display for Colour {
     }
 }
 
+/// How a segment's square in the legend is drawn: full of its colour, and hollow where it was discarded, for it has no bytes.
+#[derive(Clone, Copy)]
+pub struct Square<'a>(pub &'a Drawn);
+
+impl fmt::Display for Square<'_> {
+    fn fmt<W: fmt::Write>(&self, f: &mut fmt::Formatter<W>) -> fmt::Result {
+        let colour = Colour(self.0.holder);
+        if self.0.discarded {
+            write!(f, "fill=\"none\" stroke=\"{colour}\" stroke-width=\"2\"")
+        } else {
+            write!(f, "fill=\"{colour}\"")
+        }
+    }
+}
+
 /// The first holder as a text: the number of its process and the selector.
 #[derive(Clone, Copy)]
 pub struct Name(pub Option<Holder>);
@@ -84,9 +102,10 @@ impl fmt::Display for Name {
 
 impl fmt::Display for Drawn {
     fn fmt<W: fmt::Write>(&self, f: &mut fmt::Formatter<W>) -> fmt::Result {
+        let discarded = if self.discarded { ", discarded" } else { "" };
         write!(
             f,
-            "{}, segment {}, {} bytes",
+            "{}, segment {}, {} bytes{discarded}",
             Name(self.holder),
             self.number,
             self.size

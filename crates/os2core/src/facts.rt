@@ -40,9 +40,10 @@ impl fmt::Display for Told<'_> {
 /// A segment, without its place.
 fn put_segment<W: fmt::Write>(f: &mut fmt::Formatter<W>, entry: &SegmentEntry) -> fmt::Result {
     let clean = if entry.clean { ", clean" } else { "" };
+    let gone = if entry.gone { ", discarded" } else { "" };
     write!(
         f,
-        "{} bytes, {} kept, flags {:02X}h, lock {}{clean}",
+        "{} bytes, {} kept, flags {:02X}h, lock {}{clean}{gone}",
         entry.size, entry.kept, entry.flags, entry.lock
     )
 }

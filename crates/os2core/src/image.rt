@@ -68,7 +68,7 @@ pub struct Reason(pub CoreFault);
 impl fmt::Display for Reason {
     fn fmt<W: fmt::Write>(&self, f: &mut fmt::Formatter<W>) -> fmt::Result {
         match self.0 {
-            CoreFault::NotCore => f.write_str("it doesn't begin with OS2CORE1"),
+            CoreFault::NotCore => f.write_str("it doesn't begin with OS2CORE1 or OS2CORE2"),
             CoreFault::Truncated(at) => write!(f, "it ends at {at:X}h, within a field"),
             CoreFault::BadEntry(at) => write!(f, "what begins at {at:X}h is bad"),
             CoreFault::TooLong(at) => write!(f, "it goes on behind its end at {at:X}h"),

@@ -1,6 +1,6 @@
 // The memory and the swap device as a picture.
 
-use crate::drawn::{Colour, Drawn, Name, Title, one_of};
+use crate::drawn::{Colour, Drawn, Name, Square, Title, one_of};
 use crate::holders::{Holder, holders};
 use crate::spans::{Span, spans};
 use crate::tables::{Use, uses};
@@ -176,15 +176,15 @@ const COLUMN: u64 = 240;
 
 const COLUMNS: u64 = 4;
 
-/// A segment's colour, and what is told of it, at a place of the legend.
+/// A segment's square, and what is told of it, at a place of the legend.
 fn draw_key(rt: &HostRuntime, one: &Drawn, place: u64) -> io::Result<()> {
     let left = place % COLUMNS * COLUMN;
     let top = (place / COLUMNS)
         .saturating_mul(HEIGHT)
         .saturating_add(LEGEND_TOP);
     println!(rt;
-        "<rect x=\"{left}\" y=\"{top}\" width=\"16\" height=\"16\" fill=\"{}\"/>\n<text x=\"{}\" y=\"{}\">{one}</text>",
-        Colour(one.holder),
+        "<rect x=\"{left}\" y=\"{top}\" width=\"16\" height=\"16\" {}/>\n<text x=\"{}\" y=\"{}\">{one}</text>",
+        Square(one),
         left + 22,
         top.saturating_add(12)
     )

@@ -5,7 +5,7 @@ use Rattle.o2_dump.proofs.blocks.blocks_of.Given as goal
 
 abbrev pub invariant-loop : goal.invariant-loop
 invariant-loop l = record {
-  so_far : steps (block_step l.file l.blocks l.found l.entry) (l.count - l.counter) l.own.items ≡ steps (block_step l.file l.blocks l.found l.entry) l.count [];
+  so_far : steps (block_step l.file l.blocks l.found l.entry l.behind) (l.count - l.counter) l.own.items ≡ steps (block_step l.file l.blocks l.found l.entry l.behind) l.count [];
   many : vec_len l.own ≡ l.counter;
-  inside : l.entry + 16 + 516 * vec_len l.own ≤ length l.file;
+  inside : l.behind + 4 + 516 * vec_len l.own ≤ length l.file;
 }
