@@ -1,7 +1,7 @@
 -- A call by its row, from what its parts say.
-use Rattle.std.proofs.Common.{◌≡◌, ℕ, true, false, List, [], ◌∷◌, ◌++◌, map, Result, Ok, Err, Option, Some, None, replicate, zero, suc, get_or, refl, ap, sym, subst, ◌∙◌}
+use Rattle.std.proofs.Common.{◌≡◌, ℕ, true, false, List, [], ◌∷◌, ◌++◌, Result, Ok, Err, Option, Some, None, replicate, zero, suc, get_or, refl, ap, sym, subst, ◌∙◌}
 use Rattle.std.specs.Result.{IfOk}
-use Rattle.std.specs.Prelude.{flat_map, slice_index}
+use Rattle.std.specs.Prelude.{slice_index}
 use Rattle.std.specs.List.{list_all}
 use mathlib.Core.Path.{fun_ext}
 use Rattle.o2_base.specs.declared.memory.NoMemory.{NoMemory}
@@ -12,12 +12,11 @@ use Rattle.o2_world.specs.declared.types.State.TheVariants.{Live}
 use Rattle.o2_world.specs.World.{Calls, Line}
 use Rattle.o2_world.specs.CallParts.{Before, Effect, returned, trapped, waiting}
 use Rattle.o2_world.specs.Calls.{row_of}
-use Rattle.o2_world.specs.Changes.{Change, moved_lines}
+use Rattle.o2_world.specs.Changes.{moved_lines}
 use Rattle.o2_world.specs.Outcomes.{CallRow, Done, Outcome, Does, Fails, Waits, Leaves, by_ruling, come_out, gone_indexes}
 use Rattle.o2_world.specs.HugeRulings.{without}
 use Rattle.o2_world.specs.Rulings.{Ruling}
 use Rattle.o2_world.specs.Slots.{are_good, pointers_in, put_all, shown_in, targets_in, words_in}
-use Rattle.o2_world.specs.Text.{lines_text}
 use Rattle.o2_world_parts.specs.declared.changing.Edit.{Edit}
 use Rattle.o2_world_parts.specs.declared.effect.Effect as code
 use Rattle.o2_world_parts.specs.declared.effect.Done as code_done
@@ -26,11 +25,11 @@ use Rattle.o2_boundless.specs.declared.rows.Row.{Row}
 use Rattle.o2_world_parts.specs.Layouts.{from_top}
 use Rattle.o2_boundless.specs.Called.{worded_by, words_by}
 use Rattle.o2_world_parts.specs.Edits.{changes_of}
-use Rattle.o2_world_parts.specs.Effects.{IsEffect, came_back, left_by, written}
-use Rattle.o2_world_parts.specs.Layouts.{done_of, good_by, placed, shown_by, targets_by}
+use Rattle.o2_world_parts.specs.Effects.{IsEffect, came_back, left_by}
+use Rattle.o2_world_parts.specs.Layouts.{done_of, good_by, placed}
 use Rattle.o2_boundless.specs.Outcomes.{outcome_by, outcome_of, row_by, shape_by, slots_by}
-use Rattle.o2_world_parts.proofs.Placed.{good_is, shown_is, targets_are}
-use Rattle.o2_world_parts.proofs.Writing.{put_is, put_nothing}
+use Rattle.o2_world_parts.proofs.Placed.{good_is}
+use Rattle.o2_world_parts.proofs.Writing.{put_nothing}
 
 -- what is told of every start with these registers
 pub here : (b : Before) (r : Result code.Effect NoMemory) (c : Cpu) (f : Before → Effect) → b.cpu ≡ c

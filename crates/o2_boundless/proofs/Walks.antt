@@ -1,19 +1,12 @@
 -- Walks over processes and indexes.
-use Rattle.std.proofs.Common.{◌≡◌, ℕ, zero, suc, ◌+◌, ◌-◌, ◌<◌, ◌≤◌, ◌&&◌, ◌==◌, Bool, true, false, List, [], ◌∷◌, ◌++◌, length, take, drop, get_or, find, Option, Some, None, option_map, refl, ap, sym, ◌∙◌, arith, cond}
+use Rattle.std.proofs.Common.{◌≡◌, ℕ, zero, suc, ◌+◌, ◌-◌, ◌<◌, ◌&&◌, Bool, true, false, List, [], ◌∷◌, ◌++◌, length, take, get_or, find, Some, None, refl, ap, sym, ◌∙◌, arith}
 use Rattle.std.specs.Prelude.{if◌then◌else◌, not}
-use Rattle.std.proofs.lemmas.Bool.{and_right, eq-eqb, ne_eqb, cond-false}
-use Rattle.std.proofs.lemmas.List.{append-nil, append_assoc, drop_all, drop_more, take_all, take_more}
+use Rattle.std.proofs.lemmas.List.{append-nil, append_assoc, take_more}
 use Rattle.o2_desc.specs.Choice.{first_open, is_open}
 use Rattle.o2_world.specs.Changes.{Change}
-use Rattle.o2_world.specs.World.{Held, Process, Segment}
-use Rattle.o2_world.specs.Map.{Map}
-use Rattle.o2_world.specs.Known.{Known, same_text, text_name}
+use Rattle.o2_world.specs.Known.{Known}
 use Rattle.o2_world.specs.Rulings.{indexes}
-use Rattle.o2_world.specs.SharedNames.{before_zero, bytes_at, looked_at}
 use Rattle.o2_world.specs.SharedRulings.{each_more, one_more}
-use Rattle.o2_world.specs.Views.{bytes_in, hold_of, holds_in, view_of}
-use Rattle.o2_isa.specs.View.{bound_in}
-use Rattle.o2_world_parts.specs.Names.{has_text}
 use Rattle.o2_boundless.specs.Sharing.{is_no_share, is_share_at}
 use Rattle.o2_boundless.proofs.Indexes.{first_open-more, is_open-more, is_open-none}
 

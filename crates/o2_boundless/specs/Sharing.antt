@@ -1,7 +1,7 @@
 -- Who holds an index, and which segments are shared, each as a test of one index.
 use Rattle.std.specs.Prelude.{ℕ, Bool, not, List, length, find, nat_le, ◌&&◌, Option, is_some}
 use Rattle.o2_world.specs.World.{Process}
-use Rattle.o2_world.specs.Known.{Known, held_at, same_text}
+use Rattle.o2_world.specs.Known.{Known, held_at}
 use Rattle.o2_world.specs.Rulings.{indexes}
 use Rattle.o2_world.specs.SharedRulings.{held_by, holder, is_share, is_shared_with, marks_by_call, shared_from}
 

@@ -51,6 +51,7 @@ impl World {
             Edit::Makes(_) => {}
             Edit::Resizes(_, _) => {}
             Edit::Locks(_, _) => {}
+            Edit::Revives(_) => {}
             Edit::Holds(_, _, _) => {}
             Edit::Finishes(_, _) => {}
             Edit::Reserves(_) => {}

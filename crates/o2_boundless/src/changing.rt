@@ -7,7 +7,7 @@ use crate::World;
 use o2_base::{Bytes, NoMemory};
 use o2_world_parts::{
     Edit, Segment, any_takes, drop_at, end_at, hold_at, keep_held, keep_told, keep_used, lock_in,
-    put_first, resize_in,
+    put_first, resize_in, revive_in,
 };
 use std::alloc::Global;
 
@@ -34,6 +34,10 @@ impl World {
             Edit::Resizes(name, size) => resize_in(&mut self.names, *name, *size),
             Edit::Locks(name, count) => {
                 lock_in(&mut self.names, *name, *count);
+                Ok(())
+            }
+            Edit::Revives(name) => {
+                revive_in(&mut self.names, *name);
                 Ok(())
             }
             Edit::Holds(process, index, held) => hold_at(

@@ -6,12 +6,13 @@ ghost use Rattle.o2_desc.specs.Bits.{has_bit};
 ghost use Rattle.o2_isa.specs.View.{is_local, is_null};
 ghost use Rattle.o2_world.specs.Changes.{Drops};
 ghost use Rattle.o2_world.specs.Rulings.{refusal, grants, held_under, free_index, full_size, made_segment, held_by_call, region_by, allocation_at, allocation, is_alias};
-ghost use Rattle.o2_world.specs.Rulings.{is_in_run, keeps_its_size, reallocation_with, reallocation_of, reallocation, members, is_later, is_index, in_use, by_load};
+ghost use Rattle.o2_world.specs.Rulings.{is_in_run, is_sizeable, keeps_its_size, reallocation_with, reallocation_of, reallocation, members, is_later, is_index, in_use, by_load};
 ghost use Rattle.o2_world.specs.Rulings.{freeing_with, freeing_of, freeing, sizing_with, sizing_of};
 ghost use Rattle.o2_world.specs.Rulings.{sizing, is_discardable, locking_with, locking_of, locking, unlocking_with, unlocking_of, unlocking, held_as_code, aliasing_at};
 ghost use Rattle.o2_world.specs.Rulings.{aliasing_of, aliasing};
 ghost use Rattle.o2_world.specs.Known.{marks_of};
 ghost use Rattle.o2_boundless.specs.Shown.{known_by};
+ghost use Rattle.o2_world_parts.specs.declared.changing.Edit.TheVariants.{Resizes, Locks, Revives};
 ghost use Rattle.o2_world_parts.specs.Edits.{changes_of};
 ghost use Rattle.o2_boundless.specs.Verdicts.{ruling_of, marks_in};
 
@@ -231,10 +232,26 @@ impl World {
 
 // DosReallocSeg(size, sel)
 
+/// Whether others don't hinder it from shrinking (flag 8).
+fn is_sizeable(segment: &Segment) -> bool
+    ensures { result ≡ is_sizeable (marks_of segment.now) }
+{
+    segment.flags / 8 % 2 == 1
+}
+
 fn keeps_its_size(size: u32, segment: &Segment) -> bool
     ensures { result ≡ keeps_its_size size (marks_of segment.now) }
 {
-    segment.clean || (segment.shared && (size as usize) < segment.size())
+    segment.clean || (segment.shared && (!is_sizeable(segment) && (size as usize) < segment.size()))
+}
+
+/// A discarded segment is made anew, locked once.
+fn anew(alloc: Global, name: u64, size: u32) -> Result<Vec<Edit>, NoMemory>
+    ensures { IfOk result (λ v. v.items ≡ Revives name ∷ Resizes name size ∷ Locks name 1 ∷ []) }
+{
+    let mut edits = two(alloc, Edit::Revives(name), Edit::Resizes(name, size))?;
+    edits.push(Edit::Locks(name, 1))?;
+    Ok(edits)
 }
 
 fn reallocation_with(
@@ -251,7 +268,11 @@ fn reallocation_with(
             if keeps_its_size(size, segment) {
                 return Ok(refusal(alloc, 5));
             }
-            let edits = one(alloc, Edit::Resizes(name, size))?;
+            let edits = if segment.discarded {
+                anew(alloc, name, size)?
+            } else {
+                one(alloc, Edit::Resizes(name, size))?
+            };
             Ok(grants(0, edits))
         }
     }
@@ -420,6 +441,9 @@ fn locking_with(alloc: Global, name: u64, segment: Option<&Segment>) -> Result<V
         Some(segment) => {
             if !is_discardable(segment) {
                 return Ok(refusal(alloc, 5));
+            }
+            if segment.discarded {
+                return Ok(refusal(alloc, 157));
             }
             let count = if segment.lock < 255 {
                 segment.lock + 1

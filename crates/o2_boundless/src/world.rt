@@ -1,10 +1,11 @@
 // The world, and its copies.
 ghost use Rattle.std.specs.Prelude.{◌≡◌, IfOk};
+ghost use Rattle.o2_world.specs.Discards.{all_discarded};
 ghost use Rattle.o2_boundless.specs.Bare.{bare_world};
 
 use o2_base::{Bytes, NoMemory};
 use o2_conf::Script;
-use o2_world_parts::{Process, Reserve, Segment};
+use o2_world_parts::{Process, Reserve, Segment, discard_all};
 use std::alloc::Global;
 use std::marker::Model;
 
@@ -127,6 +128,13 @@ impl World {
             segments,
             avail,
         })
+    }
+
+    /// The script's word `discard`: the segments that may go lose their bytes. Whose turn it is stays.
+    pub fn discard(&mut self)
+        ensures { self.new ≡ record self.old { world = record self.old.world { names = all_discarded self.old.world.processes self.old.world.names } } }
+    {
+        discard_all(&mut self.names, &self.processes);
     }
 
     /// A copy.

@@ -1,4 +1,5 @@
 pub mod Lookups
+pub mod Gone
 pub mod Mapped
 pub mod Places
 pub mod Names

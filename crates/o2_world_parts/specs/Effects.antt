@@ -28,11 +28,12 @@ abbrev pub is_behind : Option Hold → ℕ → Bool
 is_behind None n = false
 is_behind (Some h) n = n == h.name
 
--- so many bytes from an offset on lie in what is held, which may be read, and written where the call writes
-abbrev pub reaches : (ℕ → List ℕ) → (writes : Bool) → (offset count : ℕ) → Option Hold → Bool
-reaches bytes writes offset count None = false
-reaches bytes writes offset count (Some h) =
-    is_readable h.rights && ((not writes || is_writable h.rights) && nat_le (offset + count) (length (bytes h.name)))
+-- so many bytes from an offset on lie in what is held, which isn't discarded and may be read, and written where the call writes
+abbrev pub reaches : (ℕ → List ℕ) → (ℕ → Bool) → (writes : Bool) → (offset count : ℕ) → Option Hold → Bool
+reaches bytes discarded writes offset count None = false
+reaches bytes discarded writes offset count (Some h) =
+    is_readable h.rights
+    && (not (discarded h.name) && ((not writes || is_writable h.rights) && nat_le (offset + count) (length (bytes h.name))))
 
 -- what is done is this effect
 pub record IsEffect (b : Before) (x : code.Effect) (e : Effect) : Type 0 where

@@ -1,11 +1,11 @@
 // The changes that calls make, as values, and what each does to the lists of a world.
-ghost use Rattle.std.specs.Prelude.{◌≡◌, ◌∷◌, [], IfOk, Some, None};
+ghost use Rattle.std.specs.Prelude.{◌≡◌, ◌∷◌, [], false, IfOk, Some, None};
 ghost use Rattle.std.specs.List.{list_any};
 ghost use Rattle.o2_world.specs.Changes.{Makes};
 ghost use Rattle.std.specs.Option.{option_copied};
 ghost use Rattle.o2_world.specs.Map.{put, at_key};
 ghost use Rattle.o2_world.specs.Holders.{kept};
-ghost use Rattle.o2_world.specs.Changes.{more, fewer, resized, at_number, used, told_of, takes, swept, with_change, with_changes, with_all};
+ghost use Rattle.o2_world.specs.Changes.{more, fewer, resized, at_number, used, told_of, takes, swept, marked, with_change, with_changes, with_all};
 ghost use Rattle.o2_world_parts.specs.Edits.{change_of, changes_of};
 ghost use Rattle.o2_world_parts.specs.Pairs.{keyed, with_size, with_lock, with_more, with_fewer, ended};
 
@@ -24,6 +24,8 @@ pub enum Edit {
     Resizes(u64, u32),
     /// A name's lock count.
     Locks(u64, u8),
+    /// A name is discarded no more.
+    Revives(u64),
     /// So many holds more of a process and index; where there were none, all that is held.
     Holds(u16, u16, Held),
     /// So many holds less of a process and index.
@@ -88,6 +90,23 @@ pub fn lock_in(names: &mut Vec<(u64, Segment)>, name: u64, count: u8)
 {
     for k in 0..names.len() {
         lock_pair(&mut names[k], name, count);
+    }
+}
+
+fn revive_pair(pair: &mut (u64, Segment), name: u64)
+    ensures { pair.new ≡ keyed name (marked false) pair.old }
+{
+    if pair.0 == name {
+        pair.1.discarded = false;
+    }
+}
+
+#[tactic(auto, using(crate::proofs::Mapped::mapped))]
+pub fn revive_in(names: &mut Vec<(u64, Segment)>, name: u64)
+    ensures { names.new.items ≡ at_key name (marked false) names.old.items }
+{
+    for k in 0..names.len() {
+        revive_pair(&mut names[k], name);
     }
 }
 
@@ -220,6 +239,7 @@ fn takes(edit: &Edit) -> bool
         Edit::Makes(_) => false,
         Edit::Resizes(_, _) => false,
         Edit::Locks(_, _) => false,
+        Edit::Revives(_) => false,
         Edit::Holds(_, _, _) => false,
         Edit::Drops(_, _, _) => true,
         Edit::Finishes(_, _) => true,

@@ -109,6 +109,7 @@ fn moves(came: bool, edit: &Edit) -> (u16, u16, u32)
         Edit::Makes(_) => (0, 0, 0),
         Edit::Resizes(_, _) => (0, 0, 0),
         Edit::Locks(_, _) => (0, 0, 0),
+        Edit::Revives(_) => (0, 0, 0),
         Edit::Finishes(_, _) => (0, 0, 0),
         Edit::Reserves(_) => (0, 0, 0),
         Edit::Names(_, _) => (0, 0, 0),

@@ -3,6 +3,7 @@
 #![tactic(auto)]
 
 mod changing;
+mod discarding;
 mod effect;
 mod look;
 mod naming;
@@ -12,8 +13,9 @@ mod slots;
 
 pub use changing::{
     Edit, any_takes, drop_at, end_at, hold_at, keep_held, keep_told, keep_used, lock_in, put_first,
-    resize_in,
+    resize_in, revive_in,
 };
+pub use discarding::discard_all;
 pub use effect::{Done, Effect, comes_back, leaves, returned, trapped, waits};
 pub use look::{
     held_by, holds_index, is_alive, is_held_under, live_below, process_of, reserves, segment_of,

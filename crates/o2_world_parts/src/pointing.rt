@@ -5,7 +5,7 @@ ghost use Rattle.o2_isa.specs.View.{bound_in, is_local, is_null};
 ghost use Rattle.o2_isa.specs.Pointers.{may_read, may_write, range_of};
 ghost use Rattle.o2_isa.specs.Parts.{put_part};
 ghost use Rattle.o2_world.specs.Slots.{may_have_heap};
-ghost use Rattle.o2_world.specs.Views.{view_of, hold_of, holds_in, segment_bytes, bytes_in, with_bytes};
+ghost use Rattle.o2_world.specs.Views.{view_of, hold_of, holds_in, segment_bytes, bytes_in, discarded_in, with_bytes};
 ghost use Rattle.o2_world_parts.specs.Effects.{written, is_behind, reaches};
 
 use crate::look::{held_under, segment_of};
@@ -54,7 +54,18 @@ fn has_bytes(names: &[(u64, Segment)], name: u64, offset: u16, count: u32) -> bo
     }
 }
 
-/// Whether so many bytes from an offset on lie in what is held, which may be written, or else read.
+/// Whether a name is discarded.
+#[tactic(auto, using(crate::proofs::Pointers::marks))]
+fn is_discarded(names: &[(u64, Segment)], name: u64) -> bool
+    ensures { result ≡ discarded_in names.now name }
+{
+    match segment_of(names, name) {
+        None => false,
+        Some(segment) => segment.discarded,
+    }
+}
+
+/// Whether so many bytes from an offset on lie in what is held, which isn't discarded and may be written, or else read.
 fn reaches(
     names: &[(u64, Segment)],
     writes: bool,
@@ -62,14 +73,15 @@ fn reaches(
     count: u32,
     held: Option<&Held>,
 ) -> bool
-    ensures { result ≡ reaches (bytes_in names.now) writes offset count (option_map hold_of (option_copied held.entry)) }
+    ensures { result ≡ reaches (bytes_in names.now) (discarded_in names.now) writes offset count (option_map hold_of (option_copied held.entry)) }
 {
     match held {
         None => false,
         Some(held) => {
             Access(held.rights).is_readable()
-                && ((!writes || Access(held.rights).is_writable())
-                    && has_bytes(names, held.name, offset, count))
+                && (!is_discarded(names, held.name)
+                    && ((!writes || Access(held.rights).is_writable())
+                        && has_bytes(names, held.name, offset, count)))
         }
     }
 }

@@ -14,9 +14,10 @@ abbrev pub is_chosen : Choice → ℕ → ℕ → ℕ → Bool
 is_chosen choice number process cs = nat_le choice.from number
     && is_any_or choice.process process && is_any_or choice.selector cs
 
--- the process whose step is next: none where the run has ended or stopped, and where a turn would end it
+-- the process whose step is next: none where the run has ended or stopped, where a turn would end it, and where a word is next
 abbrev pub next_of : Option Last → Pick → Option ℕ
 next_of None (pick.Step process) = Some process
+next_of None pick.Discard = None
 next_of None pick.AllEnded = None
 next_of None pick.BudgetSpent = None
 next_of (Some last) p = None

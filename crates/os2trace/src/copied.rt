@@ -67,12 +67,29 @@ fn name_of(named: &[Named], id: SegId) -> Option<u32> {
     None
 }
 
-/// The bytes of one more segment.
-fn add_segment(copied: &mut Copied, id: SegId, index: u16, bytes: Vec<u8>) -> Result<u32, NoMemory>
+/// Whether a segment was discarded.
+fn is_discarded(machine: &Machine, id: SegId) -> bool {
+    match machine.space.store.attr(id) {
+        Some(attr) => attr.gone,
+        None => false,
+    }
+}
+
+/// The bytes of one more segment. A load of one that was discarded misses.
+fn add_segment(
+    copied: &mut Copied,
+    named: Named,
+    is_whole: bool,
+    bytes: Vec<u8>,
+) -> Result<u32, NoMemory>
     requires small { length bytes.items ≤ 65536 }
 {
-    copied.named.push(Named { id, index })?;
-    copied.memory.add(bytes)
+    copied.named.push(named)?;
+    let name = copied.memory.add(bytes)?;
+    if !is_whole {
+        copied.memory.show(name, false);
+    }
+    Ok(name)
 }
 
 /// The name of a segment that the process holds at an index, which is copied where it isn't yet.
@@ -96,7 +113,8 @@ fn copied_name(
             if bytes.len() > 65536 {
                 return Ok(None);
             }
-            Ok(Some(add_segment(copied, id, index, bytes)?))
+            let is_whole = !is_discarded(machine, id);
+            Ok(Some(add_segment(copied, Named { id, index }, is_whole, bytes)?))
         }
         None => Ok(None),
     }

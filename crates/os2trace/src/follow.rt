@@ -12,7 +12,7 @@ ghost use Rattle.os2trace.specs.Going.{IsGoing, AreShown};
 
 use crate::command::Choice;
 use crate::copied::{Copied, changes_of, copy_of, held};
-use crate::output::{put_lines, put_step, put_waiter};
+use crate::output::{put_lines, put_step, put_waiter, put_word};
 use crate::reading::{bytes_of, ten_at};
 use o2_base::{NoMemory, SERVICE_COUNT, Selector, service_at};
 use o2_core::step_plain;
@@ -23,7 +23,7 @@ use o2_outer::{MemSink, StdinSource, SureSwap};
 use o2_place::SegId;
 use o2_sched::Pick;
 use o2_tool::REFUSED;
-use o2_trace::{Before, Told, Waiter, exception_of};
+use o2_trace::{Before, Exception, Place, Told, Waiter, exception_of};
 use std::alloc::{AllocError, Global};
 use std::process::ExitCode;
 
@@ -32,6 +32,9 @@ const STEP_ROOM: usize = 1_048_576;
 
 /// Room for the lines of all starts: of 64 processes, each of which holds at most 4,351 selectors, with 22 bytes a line.
 const START_ROOM: usize = 8_388_608;
+
+/// The most words that a script has.
+const MOST_WORDS: u64 = 100_000;
 
 /// A sink in memory.
 fn sink(alloc: Global, room: usize) -> Result<MemSink, AllocError> {
@@ -73,17 +76,16 @@ fn beside(rt: &HostRuntime, blocks: u32) -> Result<Outside, NoMemory>
     })
 }
 
-/// The process whose step is next; none where the run has ended or stopped, or a turn would end it.
-fn next_process(machine: &mut Machine) -> Option<u16>
-    ensures next { result ≡ next_of machine.old.last (pick_of machine.old.sched) }
-    ensures going { (device : ℕ) → GoesOver machine.old.space machine.old.sched device
-        → GoesOver machine.new.space machine.new.sched device }
+/// The process whose step is next; none where the run has ended or stopped, where a turn would end it, and where a word is next.
+fn next_process(machine: &Machine) -> Option<u16>
+    ensures next { result ≡ next_of machine.now.last (pick_of machine.now.sched) }
 {
     if machine.stopped().is_some() {
         return None;
     }
-    match machine.sched.next() {
+    match machine.sched.coming() {
         Pick::Step(process) => Some(process),
+        Pick::Discard => None,
         Pick::AllEnded => None,
         Pick::BudgetSpent => None,
     }
@@ -172,10 +174,7 @@ fn is_chosen(choice: Choice, number: u64, process: u16, cs: u16) -> bool
 }
 
 /// The process and the registers of the step that is next.
-fn next_step(machine: &mut Machine) -> Option<(u16, Cpu)>
-    ensures going { (device : ℕ) → GoesOver machine.old.space machine.old.sched device
-        → GoesOver machine.new.space machine.new.sched device }
-{
+fn next_step(machine: &Machine) -> Option<(u16, Cpu)> {
     let process = next_process(machine)?;
     let (cpu, _, _) = machine.process(process)?;
     Some((process, cpu))
@@ -226,6 +225,20 @@ fn waited_call(stands: bool, answer: Outcome) -> &'static [u8] {
     }
 }
 
+/// The exception by which a step ended its process. A load of what was discarded misses, and the error code is its selector.
+fn ended_by(before: &Before, vector: u16, answer: Outcome) -> Exception {
+    match answer {
+        Outcome::Miss(selector) => Exception {
+            vector,
+            code: selector.0 & 65532,
+            place: Place::Instruction,
+            first: None,
+            second: None,
+        },
+        answer => exception_of(before, vector, answer),
+    }
+}
+
 /// What is told of a step that was taken.
 fn told<'a>(
     machine: &Machine,
@@ -236,7 +249,7 @@ fn told<'a>(
 ) -> Told<'a> {
     let (after, exception) = match machine.process(before.process) {
         Some((cpu, 0, _)) => (Some(cpu), None),
-        Some((_, 2, vector)) => (None, Some(exception_of(&before, vector, answer))),
+        Some((_, 2, vector)) => (None, Some(ended_by(&before, vector, answer))),
         _ => (None, None),
     };
     let waits = waited_call(stands(machine, before.process, &before.cpu), answer);
@@ -334,6 +347,14 @@ fn empty(alloc: Global, outside: &mut Outside) -> Result<(), AllocError>
     Ok(())
 }
 
+/// Shows a word behind whose turn the step of this number comes.
+fn told_word(rt: &HostRuntime, turn: &Turn, choice: Choice, number: u64) -> anyhow::Result<()> {
+    if matches!(turn, Turn::Discarded) && number >= choice.from {
+        put_word(rt, choice.is_json)?;
+    }
+    Ok(())
+}
+
 /// Takes a turn: one whose step is shown, or another.
 fn taken_turn(
     rt: &HostRuntime,
@@ -352,7 +373,7 @@ fn taken_turn(
     }
 }
 
-/// Takes the turn of this number, from 1.
+/// Takes a turn: the step of this number, from 1, or the word in front of it.
 fn turned(
     rt: &HostRuntime,
     machine: &mut Machine,
@@ -368,6 +389,7 @@ fn turned(
     let step = chosen(next, choice, number);
     let turn = taken_turn(rt, machine, outside, choice, step, number)?;
     note(machine, &mut outside.standing, &turn, next);
+    told_word(rt, &turn, choice, number)?;
     Ok(turn)
 }
 
@@ -442,9 +464,15 @@ fn follow_on(
     requires going { IsGoing machine.old outside.old.swap }
 {
     put_lines(rt, outside.report.taken(), choice.is_json)?;
-    for number in 1..=choice.to.min(1 << 60) {
+    let last = choice.to.min(1 << 60);
+    let mut number = 1u64;
+    for _turn in 0..last.saturating_add(MOST_WORDS) {
+        if number > last {
+            return Ok(ExitCode::SUCCESS);
+        }
         match turned(rt, machine, outside, choice, number)? {
-            Turn::Ran => {}
+            Turn::Ran => number = number.saturating_add(1),
+            Turn::Discarded => {}
             Turn::AllEnded | Turn::BudgetSpent | Turn::NoRoom | Turn::SwapFull => {
                 put_all_waiting(rt, machine, outside, choice.is_json)?;
                 return Ok(ExitCode::SUCCESS);

@@ -67,6 +67,16 @@ pub fn put_waiter(rt: &HostRuntime, waiter: &Waiter<'_>, is_json: bool) -> anyho
     Ok(())
 }
 
+/// A word of the script, by which the system discards segments, as a line or as an object of JSON.
+pub fn put_word(rt: &HostRuntime, is_json: bool) -> anyhow::Result<()> {
+    if is_json {
+        println!(rt; "{{\"word\":\"discard\"}}")?;
+    } else {
+        println!(rt; "discard")?;
+    }
+    Ok(())
+}
+
 /// Lines of the report that no step put, as lines or as an object of JSON.
 pub fn put_lines(rt: &HostRuntime, report: &[u8], is_json: bool) -> anyhow::Result<()> {
     if is_json && !report.is_empty() {

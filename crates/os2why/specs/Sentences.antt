@@ -166,7 +166,7 @@ form_text key.ProcessModule = codes "one text without a zero byte"
 form_text key.ProcessArguments = codes "one text without a zero byte"
 form_text key.ProcessEnvironment = codes "an array of texts without zero bytes"
 form_text key.Ordinals = codes "a table with the names of calls, in exactly their letters, each with an ordinal of its own"
-form_text key.Script = codes "an array of texts P:N, without blanks, signs or leading zeros"
+form_text key.Script = codes "an array of texts, each discard, or P:N without blanks, signs or leading zeros"
 form_text key.Shim = codes "one text without a zero byte"
 
 -- the limits of a key

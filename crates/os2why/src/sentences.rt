@@ -361,7 +361,8 @@ fn form(key: Key) -> &'static str
         Key::Ordinals => {
             "a table with the names of calls, in exactly their letters, each with an ordinal of its own"
         }
-        Key::Script => "an array of texts P:N, without blanks, signs or leading zeros",
+        Key::Script =>
+            "an array of texts, each discard, or P:N without blanks, signs or leading zeros",
     }
 }
 
