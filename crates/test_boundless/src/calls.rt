@@ -16,7 +16,7 @@ E 8007 1 17 0 = 0
 F 8007 = 0
 D 17 0 17 C = 123
 C 10 17 0 17 C = 123
-6 F 8004 = 5
+6 F 8004 = 0
 6 0 8007 = 0
 A 8007 = 0
 A 8007 = 158
@@ -41,6 +41,7 @@ B 27 17 0 = 0
 11 1 0 37 = 0
 12 17 0 = 0
 C 10 1F 0 17 C = 0
+6 F 800F = 5
 C 20 1F C 17 C = 183
 D 1F C 17 C = 0
 D 1F 18 17 C = 2
@@ -79,7 +80,7 @@ static REPORT: &str = "1 call DosAllocSeg 0000 0017:0000 0000 = 0 0027
 1 hold 8007 by DosGetSeg
 1 call DosGetShrSeg 0017:0000 0017:000C = 123
 1 call DosAllocShrSeg 0010 0017:0000 0017:000C = 123
-1 call DosReallocSeg 000F 8004 = 5
+1 call DosReallocSeg 000F 8004 = 0
 1 call DosReallocSeg 0000 8007 = 0
 1 call DosUnlockSeg 8007 = 0
 1 call DosUnlockSeg 8007 = 158
@@ -112,6 +113,7 @@ static REPORT: &str = "1 call DosAllocSeg 0000 0017:0000 0000 = 0 0027
 1 call DosGetHugeShift 0017:0000 = 0 0003
 1 call DosAllocShrSeg 0010 001F:0000 0017:000C = 0 800F
 1 hold 800F by DosAllocShrSeg
+1 call DosReallocSeg 000F 800F = 5
 1 call DosAllocShrSeg 0020 001F:000C 0017:000C = 183
 1 call DosGetShrSeg 001F:000C 0017:000C = 0 800F
 1 hold 800F by DosGetShrSeg
@@ -137,6 +139,53 @@ static REPORT: &str = "1 call DosAllocSeg 0000 0017:0000 0000 = 0 0027
 1 call DosSemWait 0017:0004 FFFFFFFE = 87
 1 call DosSemClear 0017:0004 = 0
 1 call DosSemWait 0017:0004 FFFFFFFF = 0
+1 end trap 13 at 000F:0100
+";
+
+/// The same with the word of a script: a locked segment stays, one that isn't goes, and is zeros once it is made anew.
+static WORDS: &str = "5 10 17 0 4 = 0
+3 0 27 0 3 17 C = 0
+discard
+4 1 27 0 2 17 C = 0
+A 27 = 0
+discard
+9 27 = 157
+A 27 = 158
+8 27 17 4 = 0
+B 27 17 0 = 0
+6 20 2F = 5
+6 20 27 = 0
+4 1 27 0 2 17 C = 0
+A 27 = 0
+discard
+6 20 27 = 0
+9 27 = 0
+A 27 = 0
+A 27 = 0
+A 27 = 158
+discard
+4 1 27 0 2 17 C = 0";
+
+/// Their lines.
+static WORDED: &str = "1 call DosAllocSeg 0010 0017:0000 0004 = 0 0027
+1 hold 0027 by DosAllocSeg
+1 call DosRead 0000 0027:0000 0003 0017:000C = 0 0003
+1 call DosWrite 0001 0027:0000 0002 0017:000C = 0 0002
+1 call DosUnlockSeg 0027 = 0
+1 call DosLockSeg 0027 = 157
+1 call DosUnlockSeg 0027 = 158
+1 call DosSizeSeg 0027 0017:0004 = 0 00000010
+1 call DosCreateCSAlias 0027 0017:0000 = 0 002F
+1 hold 002F by DosCreateCSAlias
+1 call DosReallocSeg 0020 002F = 5
+1 call DosReallocSeg 0020 0027 = 0
+1 call DosWrite 0001 0027:0000 0002 0017:000C = 0 0002
+1 call DosUnlockSeg 0027 = 0
+1 call DosReallocSeg 0020 0027 = 0
+1 call DosLockSeg 0027 = 0
+1 call DosUnlockSeg 0027 = 0
+1 call DosUnlockSeg 0027 = 0
+1 call DosUnlockSeg 0027 = 158
 1 end trap 13 at 000F:0100
 ";
 
@@ -197,8 +246,12 @@ fn call(alloc: Global, world: &mut World, numbers: &[u16]) -> Result<Option<u16>
     Ok(Some(error))
 }
 
-/// Whether a row answers as it says.
+/// Whether a row answers as it says. The word is done, and answers nothing.
 fn is_right(alloc: Global, world: &mut World, row: &str) -> Result<bool, NoMemory> {
+    if row == "discard" {
+        world.discard();
+        return Ok(true);
+    }
     let (words, error) = row.split_once(" = ").unwrap_or((row, ""));
     let mut numbers = Vec::new(alloc);
     if !write_numbers(&mut numbers, words)? {
@@ -255,7 +308,13 @@ fn calls(
 
 #[test]
 fn calls_answer_and_tell(rt: HostRuntime) -> Result<(), Fail> {
-    assert_eq!(rt; calls(rt.alloc(), CALLS, REPORT, "...", 0)?, (57, true));
+    assert_eq!(rt; calls(rt.alloc(), CALLS, REPORT, "...", 0)?, (58, true));
+    Ok(())
+}
+
+#[test]
+fn a_word_takes_what_a_program_can_make_anew(rt: HostRuntime) -> Result<(), Fail> {
+    assert_eq!(rt; calls(rt.alloc(), WORDS, WORDED, "ab\0\0", 0)?, (22, true));
     Ok(())
 }
 

@@ -33,6 +33,18 @@ fn write_processes(alloc: Global, line: &mut String, core: &Core) -> Result<(), 
     Ok(())
 }
 
+/// Writes how many bytes each discarded segment of an image will have again.
+fn write_discarded(alloc: Global, line: &mut String, core: &Core) -> Result<(), NoMemory> {
+    for entry in core.segments.as_slice() {
+        if entry.gone {
+            let size = entry.size;
+            let told = format!(in alloc; ", {size} discarded")?;
+            line.push_str(told.as_str())?;
+        }
+    }
+    Ok(())
+}
+
 /// What an image tells.
 fn core_line(alloc: Global, core: &Core) -> Result<String, NoMemory> {
     let (memory, steps, console) = (core.memory.as_slice().len(), core.steps, core.console);
@@ -40,6 +52,7 @@ fn core_line(alloc: Global, core: &Core) -> Result<String, NoMemory> {
     let mut line = format!(in alloc;
         "memory {memory}, {steps} steps, console {console}, {segments} segments, {blocks} blocks"
     )?;
+    write_discarded(alloc, &mut line, core)?;
     write_processes(alloc, &mut line, core)?;
     line.push('.')?;
     Ok(line)

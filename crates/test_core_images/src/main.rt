@@ -10,7 +10,7 @@ use test_fixtures::tell;
 
 fn main(rt: HostRuntime) -> io::Result<()> {
     let alloc = rt.alloc();
-    tell(&rt, "40 images", texts::faults_of_images(alloc))?;
+    tell(&rt, "58 images", texts::faults_of_images(alloc))?;
     tell(
         &rt,
         "1312 fronts of an image, 5 segments",

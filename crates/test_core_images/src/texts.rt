@@ -22,7 +22,8 @@ end|tEND!";
 /// A text in place of the line of a key, and how the image is judged. The entries of the segments begin at 40, 52, 68 and 84,
 /// the memory at 1132, the processes at 1196 and 1270, the entries of the first one at 1234 and 1252, and the end at 1308.
 static CASES: &str = "none:  => ok
-mark: tOS2CORE2 => NotCore
+mark: tOS2CORE3 => NotCore
+mark: tOS2CORE2 => BadEntry 40
 mark: tOS2 => NotCore
 zeros: l0 l0 b1 b2 b0 b0 => BadEntry 40
 zeros: l65537 l0 b0 b0 b0 b0 => BadEntry 40
@@ -60,10 +61,34 @@ end: tEND! b0 => TooLong 1312
 end: tEN => Truncated 1310
 hello: tEND! => ok
 hello: tEND? => BadEntry 4174
-hello: tEND! b0 => TooLong 4178";
+hello: tEND! b0 => TooLong 4178
+marked: l16 l0 b4 b0 b0 b0 b1 tEND! => ok
+marked: l16 l0 b4 b0 b0 b0 b0 tEND! => ok
+marked: l16 l0 b4 b0 b0 b0 b2 tEND! => BadEntry 40
+marked: l16 l0 b3 b0 b0 b0 b1 tEND! => BadEntry 40
+marked: l16 l0 b4 b1 b0 b0 b1 tEND! => BadEntry 40
+marked: l16 l16 b4 b0 b0 b1 b1 w1 w1 tEND! => BadEntry 40
+marked: l16 l16 b4 b0 b0 b1 b0 w1 w1 tEND! => ok
+marked: l16 l0 b4 b0 b0 b0 => Truncated 52
+marked: l16 l0 b7 b0 b1 b0 b1 tEND! => ok
+marked: l16 l0 b251 b0 b0 b0 b1 tEND! => BadEntry 40
+pair: l16 l0 b4 b0 b0 b0 b1 l16 l0 b4 b0 b0 b0 b1 z16 tEND! => ok
+pair: l16 l0 b4 b0 b0 b0 b1 l16 l0 b4 b0 b0 b0 b2 z16 tEND! => BadEntry 53
+pair: l16 l16 b4 b0 b0 b1 b0 w1 w1 l16 l0 b4 b9 b0 b0 b1 z16 tEND! => BadEntry 57
+pair: l16 l16 b4 b0 b0 b2 b0 l0 l16 l16 b4 b0 b0 b3 b0 l1 l0 z512 z16 tEND! => ok
+pair: l16 l0 b4 b0 b0 b0 b1 l16 l16 b4 b0 b0 b2 b1 l0 z16 tEND! => BadEntry 53
+pair: l16 l0 b4 b0 b0 b0 b1 l16 l16 b4 b0 b0 b3 b1 l1 l0 z512 z16 tEND! => BadEntry 53
+pair: l16 l0 b4 b0 b0 b0 b1 l16 l0 b4 b0 b0 b0 => Truncated 65";
 
 /// The image of a machine of 4,096 bytes without swapping, whose one process has ended after ten steps, but for its end.
 static HELLO: &str = "tOS2CORE1 l4096 l0 l0 l1 l10 l0 l14 l0 z4096 w1 w1 w0 z28 l0";
+
+/// The image of a machine without memory, which has one segment and no process, in the form that tells of discarded segments, but for its
+/// segment and its end.
+static MARKED: &str = "tOS2CORE2 l0 l0 l1 l0 l7 l0 l5 l0";
+
+/// The same of a machine with 16 bytes of memory, one swap block and two segments.
+static PAIR: &str = "tOS2CORE2 l16 l1 l2 l0 l7 l0 l5 l0";
 
 /// Adds what a word of a text stands for.
 fn write_word(file: &mut Vec<u8>, word: &str) -> Result<(), NoMemory> {
@@ -105,10 +130,19 @@ fn write_line(file: &mut Vec<u8>, line: &str, key: &str, text: &str) -> Result<(
     write_text(file, usual)
 }
 
-/// Adds the image, with this text in place of the line of a key; with the key `hello` the text is the end of HELLO.
+/// Adds the image, with this text in place of the line of a key; with the keys `hello`, `marked` and `pair` the text is the end of HELLO, of
+/// MARKED and of PAIR.
 fn write_image(file: &mut Vec<u8>, key: &str, text: &str) -> Result<(), NoMemory> {
     if key == "hello" {
         write_text(file, HELLO)?;
+        return write_text(file, text);
+    }
+    if key == "marked" {
+        write_text(file, MARKED)?;
+        return write_text(file, text);
+    }
+    if key == "pair" {
+        write_text(file, PAIR)?;
         return write_text(file, text);
     }
     for line in MACHINE.lines() {
@@ -161,7 +195,7 @@ pub fn faults_of_images(alloc: Global) -> Result<(), Wrong> {
             count = count.saturating_add(1);
         }
     }
-    want(count == 40, 1)
+    want(count == 58, 1)
 }
 
 /// Whether each front of an image is refused for its length.

@@ -68,7 +68,7 @@ pub fn machine_file_faults(alloc: Global) -> Result<(), Wrong> {
             count = count.saturating_add(1);
         }
     }
-    want(count == 195, 1)?;
+    want(count == 201, 1)?;
     Ok(())
 }
 

@@ -12,7 +12,7 @@ use test_fixtures::tell;
 fn main(rt: HostRuntime) -> io::Result<()> {
     let alloc = rt.alloc();
     let answers = [
-        ("195 machine files", conf::machine_file_faults(alloc)),
+        ("201 machine files", conf::machine_file_faults(alloc)),
         (
             "bytes that are no text",
             conf::bytes_that_are_no_text(alloc),

@@ -28,6 +28,14 @@ budget = 8 / quantum = 2 / script = ['2:3', '3:1'] | 9 9 9 | 2 2 2 3 1 1 2 2 spe
 budget = 7 / quantum = 2 / script = ['2:5', '4:1', '3:1', '2:2', '1:1'] | 9 2 9 | 2 2 3 1 1 1 3 spent spent
 - short slices aren't passed
 budget = 4 / quantum = 1 / script = ['2:1', '1:1', '2:1'] | 9 9 | 2 1 2 1 spent spent
+- a word comes before the step behind it, and takes none
+budget = 4 / quantum = 1 / script = ['discard', '2:1', 'discard', 'discard', '3:4', '1:1', 'discard'] | 9 9 | word 2 word word 1 word 1 2 spent spent
+- it waits for the slice before it, and for the end of a process in it
+budget = 5 / quantum = 1000 / script = ['1:2', 'discard', '1:1'] | 9 | 1 1 word 1 1 1 spent
+budget = 4 / quantum = 1000 / script = ['1:5', 'discard'] | 2 9 | 1 1 word 2 2 spent
+- a word behind which no step comes doesn't come
+budget = 2 / quantum = 1000 / script = ['1:1', '1:1', 'discard'] | 9 | 1 1 spent spent
+budget = 9 / quantum = 1000 / script = ['1:5', 'discard'] | 2 | 1 1 ended ended
 ";
 
 /// Writes a file with a process for each number of steps.
@@ -82,6 +90,7 @@ fn lengths(text: &str) -> [u32; 3] {
 fn is_pick(pick: Pick, wanted: &str) -> bool {
     match pick {
         Pick::Step(pid) => wanted.parse::<u16>().unwrap_or(0) == pid,
+        Pick::Discard => wanted == "word",
         Pick::AllEnded => wanted == "ended",
         Pick::BudgetSpent => wanted == "spent",
     }
@@ -114,6 +123,6 @@ pub fn whose_steps_come(alloc: Global) -> Result<(), Wrong> {
             count = count.saturating_add(1);
         }
     }
-    want(count == 9, 1)?;
+    want(count == 14, 1)?;
     Ok(())
 }

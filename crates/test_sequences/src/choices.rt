@@ -33,6 +33,7 @@ pub struct Place {
     pub index: u16,
     pub is_writable: bool,
     pub size: usize,
+    pub is_discarded: bool,
     /// How often.
     pub holds: u32,
 }
@@ -69,11 +70,19 @@ impl Sequence {
         }
     }
 
+    fn is_discarded(&self, name: u64) -> bool {
+        match self.world.names.iter().find(|pair| pair.0 == name) {
+            Some(pair) => pair.1.discarded,
+            None => false,
+        }
+    }
+
     fn place_of(&self, pair: &(u16, Held)) -> Place {
         Place {
             index: pair.0,
             is_writable: pair.1.rights == Access::WRITABLE_DATA.0,
             size: self.size_of(pair.1.name),
+            is_discarded: self.is_discarded(pair.1.name),
             holds: pair.1.holds,
         }
     }
@@ -160,8 +169,8 @@ impl Sequence {
     fn good_place(&mut self, process: u16, writes: bool, count: u16) -> Option<Place> {
         let place = self.any_held(process)?;
         // the code of a module is known in its front alone
-        let is_code = place.index == 1;
-        if place.size < count as usize || (writes && !place.is_writable) || is_code {
+        let is_bad = place.index == 1 || place.is_discarded;
+        if place.size < count as usize || (writes && !place.is_writable) || is_bad {
             None
         } else {
             Some(place)

@@ -263,7 +263,7 @@ impl Sequence {
         let low = self.dice.roll(4);
         match self.any_held(process) {
             Some(place) => {
-                if self.dice.once_in(5) {
+                if place.is_discarded || self.dice.once_in(5) {
                     low
                 } else {
                     place.selector() - low
@@ -405,7 +405,7 @@ impl Sequence {
         }
     }
 
-    /// A call on a semaphore, by a number from 176 on.
+    /// A call on a semaphore, by a number from 176 to 189.
     fn act_on_semaphore(&mut self, alloc: Global, process: u16, k: u16) -> Result<(), NoMemory> {
         match k {
             176..=181 => self.want_semaphore(alloc, process, REQUEST),
@@ -415,8 +415,18 @@ impl Sequence {
         }
     }
 
+    /// Unlocks something, has the system discard what it may, and may ask for something to be made anew.
+    fn let_go(&mut self, alloc: Global, process: u16) -> Result<(), NoMemory> {
+        self.on_selector(alloc, process, UNLOCK)?;
+        self.discard()?;
+        if self.dice.once_in(2) {
+            self.realloc_seg(alloc, process)?;
+        }
+        Ok(())
+    }
+
     fn act(&mut self, alloc: Global, process: u16) -> Result<(), NoMemory> {
-        let k = self.dice.roll(190);
+        let k = self.dice.roll(240);
         if k < 80 {
             self.act_on_segment(alloc, process, k)
         } else if k < 115 {
@@ -425,8 +435,10 @@ impl Sequence {
             self.act_on_more(alloc, process, k)
         } else if k < 176 {
             self.act_on_heap(alloc, process, k)
-        } else {
+        } else if k < 190 {
             self.act_on_semaphore(alloc, process, k)
+        } else {
+            self.let_go(alloc, process)
         }
     }
 
@@ -455,7 +467,7 @@ impl Sequence {
     fn show(&mut self, alloc: Global, process: u16) -> Result<(), NoMemory> {
         for k in 0..self.holds(process) {
             if let Some(place) = self.held(process, k) {
-                if place.index != 1 && self.world.lives(process) {
+                if place.index != 1 && !place.is_discarded && self.world.lives(process) {
                     self.show_place(alloc, process, place)?;
                 }
             }

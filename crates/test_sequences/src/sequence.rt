@@ -160,6 +160,13 @@ impl Sequence {
         }
     }
 
+    /// Has the system discard what it may.
+    pub fn discard(&mut self) -> Result<(), NoMemory> {
+        self.script.push_str("\"discard\",")?;
+        self.world.discard();
+        Ok(())
+    }
+
     /// How many processes there are.
     pub fn processes(&self) -> u16 {
         (self.codes.len() % 65_536) as u16

@@ -38,6 +38,7 @@ fn segment(store: &mut Store) -> Option<SegId> {
             lock: 0,
             clean: false,
             shared: true,
+            gone: false,
         },
     )
 }

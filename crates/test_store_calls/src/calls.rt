@@ -3,19 +3,21 @@ ghost use Rattle.std.specs.Prelude.{◌≡◌, ◌+◌, ◌<◌, ◌≤◌, ◌^
 ghost use Rattle.o2_store.specs.Pictures.{HasPicture};
 ghost use Rattle.o2_store.specs.Trials.{IsReady};
 
+use crate::needs::is_whole;
 use o2_image::Images;
 use o2_outer::SwapDevice;
 use o2_place::SegId;
 use o2_store::{Attr, Brought, Store};
 
 fn attributes(clean: bool) -> Attr
-    ensures { result ≡ record { flags = 0; lock = 0; clean = clean; shared = false } }
+    ensures { result ≡ record { flags = 0; lock = 0; clean = clean; shared = false; gone = false } }
 {
     Attr {
         flags: 0,
         lock: 0,
         clean,
         shared: false,
+        gone: false,
     }
 }
 
@@ -49,7 +51,7 @@ pub fn add_environment<S: SwapDevice>(
     store.add_image(0, 1, size, attributes(true))
 }
 
-/// Brings a segment in.
+/// Brings a segment in that isn't discarded.
 pub fn bring<S: SwapDevice>(
     store: &mut Store,
     id: SegId,
@@ -61,6 +63,9 @@ pub fn bring<S: SwapDevice>(
     ensures ready { IsReady store.new images.now (S.blocks swap.new) }
     ensures made { store.new.made ≡ store.old.made }
 {
+    if !is_whole(store, id) {
+        return Brought::Stale;
+    }
     store.bring(id, keep, images, swap)
 }
 
@@ -151,6 +156,7 @@ pub fn lock<S: SwapDevice>(
         lock,
         clean: attr.clean,
         shared: attr.shared,
+        gone: false,
     };
     store.set_attr(id, attr)
 }

@@ -139,6 +139,12 @@ script: script = '1:1' => BadValue(Script)
 script: script = [] => ok
 script: script = ['1:1'] => ok
 script: script = ['65535:4000000000'] => ok
+script: script = ['discard'] => ok
+script: script = ['1:1', 'discard', 'discard'] => ok
+script: script = ['Discard'] => BadValue(Script)
+script: script = ['discard '] => BadValue(Script)
+script: script = ['discard:1'] => BadValue(Script)
+script: script = ['discards'] => BadValue(Script)
 script: script = ['1'] => BadValue(Script)
 script: script = ['1:'] => BadValue(Script)
 script: script = [':1'] => BadValue(Script)
@@ -154,7 +160,7 @@ script: script = ['+1:1'] => BadValue(Script)
 script: script = ['1:-1'] => BadValue(Script)
 script: script = ['a:1'] => BadValue(Script)
 script: script = ['1:0x1'] => BadValue(Script)
-script: script = ['discard'] => BadValue(Script)
+script: script = ['discard', '1'] => BadValue(Script)
 script: script = [\"1:1\\u0000\"] => BadValue(Script)
 script: script = [1] => BadValue(Script)
 script: script = ['0:5'] => Limit(Script)
