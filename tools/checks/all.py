@@ -17,7 +17,7 @@ import command
 
 # Each check, and those of its parts that run apart; the longest first. Nothing that one writes is read by another.
 CHECKS = (
-    ("dumps", "examples"), ("dumps", "damage"), ("dumps", "calls"), ("programs", "why"), ("memory", "rows"), ("memory", "examples"), ("memory", "sharing"), ("memory", "calls"), ("memory", "heaps"),
+    ("dumps", "examples"), ("dumps", "damage"), ("dumps", "calls"), ("dumps", "stops"), ("programs", "why"), ("memory", "rows"), ("memory", "examples"), ("memory", "sharing"), ("memory", "calls"), ("memory", "heaps"), ("memory", "discards"),
     ("programs", "replay"), ("programs", "list"), ("programs", "vectors"), ("programs", "trace"), ("programs", "writes"), ("programs", "core"), ("programs", "alone"),
     ("memory", "random", "full", "swap"), ("tools",), ("refusals",), ("streams",), ("programs", "ends", "pages"), ("pages",), ("examples",), ("wrapper",), ("terminal",),
 )

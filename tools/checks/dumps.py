@@ -1,14 +1,17 @@
 #!/usr/bin/env python3
 """Tries the core images that the program dumps, against a reader and a model of its own.
 
-    calls      programs at random that call on segments (tools/lib/calls_at_random.py), and such that share them, dumped at some of their steps in
-               memories from what they need to 1 MiB: each process must hold just what it holds in the model, and as often, with its selectors
-               and BX, and each segment have its size, flags, lock and bytes, wherever it lies, under a descriptor that says where that is
+    calls      programs at random that call on segments (tools/lib/calls_at_random.py), such that share them, and such whose segments a script
+               discards, dumped at some of their steps in memories from what they need to 1 MiB: each process must hold just what it holds in
+               the model, and as often, with its selectors and BX, and each segment have its size, flags, lock and bytes, wherever it lies,
+               under a descriptor that says where that is, and be discarded or not
     examples   each example dumped at some of its steps in the least memory in which it comes so far, and in an ample one, and each that is
                stopped where it stops: registers, what is held and the bytes of each segment must be the same, ends and holds those of the report,
                and os2core must show of each image what the reader here finds in it, segment by segment, and of the two what differs. Each
                segment must have the bytes that the programs wrote by libx86emu, over executables that are linked here (tools/lib/written.py;
                where libx86emu and a C compiler are installed)
+    stops      a program whose segment was in swap blocks when a script discarded it, and which then asks for a larger one than there is room for:
+               before the step for which the run stops the segment is discarded, with the size that it had, and before the word it isn't
     damage     an image with segments in memory, in blocks, in an image and of zeros: each of its bytes changed, each length cut, and bytes
                behind it are refused, or read, by os2core as by the reader here
 
@@ -38,6 +41,8 @@ from calls_at_random import CODE, DATA, ENVIRONMENT, FRONT
 KEPT = {"data": 0xF3, "alias": 0xFB, "code": 0xFB}
 # How many bytes are known in the model of code and data; behind them are the stack and what isn't reckoned.
 FRONTS = {CODE: 0, DATA: FRONT}
+# How many segments of images were discarded, and how many not.
+discarded = {False: 0, True: 0}
 # How many steps of an example are looked at.
 STEPS = 4000
 
@@ -47,7 +52,7 @@ class Snapshot:
 
     def __init__(self, step, machine):
         self.step = step
-        copies = {id(segment): (bytes(segment.bytes), segment.flags, segment.lock) for segment in machine.names()}
+        copies = {id(segment): (bytes(segment.bytes), segment.flags, segment.lock, segment.gone) for segment in machine.names()}
         self.held = {it.pid: {index: (id(hold.segment), hold.kind, hold.count) for index, hold in it.held.items()} for it in machine.modules}
         self.live = {it.pid: it.live for it in machine.modules}
         self.registers = {it.pid: (it.cs, it.ds, it.es, it.bx) for it in machine.modules}
@@ -79,6 +84,10 @@ class DumpedSharing(Dumped, memory.Sharing):
     pass
 
 
+class DumpedDiscarding(Dumped, memory.Discarding):
+    pass
+
+
 def read(title, file):
     """The image of a file, where it is one."""
     try:
@@ -101,7 +110,7 @@ def described(core, entries):
 
 
 def tidy(core):
-    """What no image may have: a locked segment out of memory, a clean one in blocks, one that nobody holds."""
+    """What no image may have: a locked segment out of memory, a clean one in blocks, and one that nobody holds."""
     held = {number for _, _, _, entries in core.processes.values() for _, _, _, number, _ in entries.values()}
     for number, entry in enumerate(core.segments):
         kind = entry.place and entry.place[0]
@@ -125,12 +134,13 @@ def as_in_model(title, core, machine, snapshot):
             name, kind, count = held[index]
             _, _, access, number, holds = entries[index]
             entry = core.segments[number]
-            content, flags, lock = snapshot.segments[name]
+            content, flags, lock, gone = snapshot.segments[name]
             wants(f"{title}: one number for one segment", names.setdefault(name, number) == number, (names[name], number))
             wants(f"{title}: how often {it.pid}:{index} is held", holds == count, (holds, count))
             size = it.whole_code if index == CODE else len(content)
-            marks = (entry.size, entry.flags if index > ENVIRONMENT else 0, entry.lock)
-            wants(f"{title}: size, flags and lock of {it.pid}:{index}", marks == (size, flags, lock), (marks, size, flags, lock))
+            marks = (entry.size, entry.flags if index > ENVIRONMENT else 0, entry.lock, bool(entry.gone))
+            discarded[gone] += 1
+            wants(f"{title}: size, flags, lock and discarding of {it.pid}:{index}", marks == (size, flags, lock, gone), (marks, size, flags, lock, gone))
             wants(f"{title}: access of {it.pid}:{index}", access & 0x1E == KEPT[kind] & 0x1E & ~1, f"{access:02X}")
             front = snapshot.fronts.get(name)
             if entry.bytes is not None and front != 0:
@@ -177,9 +187,9 @@ def with_budget(text, steps):
 
 def calls():
     seed = int(os.environ.get("SEED", "1"))
-    for k in range(80):
+    for k in range(110):
         dice = random.Random(f"{seed} dump {k}")
-        machine = (DumpedCalling if k < 50 else DumpedSharing)(dice)
+        machine = (DumpedCalling if k < 50 else DumpedSharing if k < 80 else DumpedDiscarding)(dice)
         for it in machine.modules:
             with open(f"{it.name}.exe", "wb") as file:
                 file.write(it.file())
@@ -197,8 +207,9 @@ def calls():
                     counts = (core.size, core.blocks, core.steps, core.console)
                     wants(f"{title}: head", counts == (size, 65536, snapshot.step, len(texts[0])), counts)
                     as_in_model(title, core, machine, snapshot)
-                    if snapshot is machine.snapshots[0]:
+                    if snapshot is machine.snapshots[0] or any(entry.gone for entry in core.segments):
                         as_shown(title, core, console)
+    wants("some segments that are dumped were discarded", discarded[True] >= 20, discarded)
 
 
 def seen(core):
@@ -208,7 +219,7 @@ def seen(core):
         held = {}
         for index, (limit, _, access, segment, holds) in entries.items():
             entry = core.segments[segment]
-            held[index] = (limit, access & 0x7E, segment, holds, entry.size, entry.flags, entry.lock, entry.clean)
+            held[index] = (limit, access & 0x7E, segment, holds, entry.size, entry.flags, entry.lock, entry.clean, entry.gone)
         told[number] = (state, code, registers, held)
     return told
 
@@ -309,8 +320,9 @@ def as_written(title, core, snapshot, images):
         wants(f"{title}: registers of process {pid}", words == registers.get(pid, words), (words, registers.get(pid)))
         wants(f"{title}: selectors of process {pid}", sorted(8 * index + 7 for index in entries) == sorted(mine), (sorted(entries), sorted(mine)))
         for index in (it for it in entries if 8 * it + 7 in mine):
-            name, count, known = mine[8 * index + 7]
+            name, count, known, gone = mine[8 * index + 7]
             number, holds = entries[index][3:]
+            wants(f"{title}: {pid}:{index} was discarded or not", core.segments[number].gone == gone, gone)
             wants(f"{title}: one number for one segment", names.setdefault(name, number) == number and list(names.values()).count(number) == 1, (names, number))
             wants(f"{title}: holds of {pid}:{index}", holds == count, (holds, count))
             wants(f"{title}: bytes of {pid}:{index} as they were written", content(core.segments[number], images) == known, "other bytes")
@@ -356,6 +368,79 @@ def examples():
             name = os.path.basename(report)[: -len(".report")]
             if not name.endswith((".exe", ".toml")) and memory.content(report) and int(memory.content(report[:-7] + ".status") or 0) in (0, 6, 8, 9):
                 an_example(folder, name, dice, processor)
+
+
+# A segment of 8,192 bytes is written, unlocked and driven to swap by another one; then it is asked for anew with 12,288 bytes, in the 24th step.
+GROWS = """\
+module GROWS
+stack 512
+start 1:0000
+segment 1 code
+0000  68 00 20  push 8192
+0003  1E  push ds
+0004  6A 00  push 0
+0006  6A 04  push 4
+0008  9A FF FF 00 00  call far DosAllocSeg  @0009 far DOSCALLS.34
+000D  B8 27 00  mov ax, 0027h
+0010  8E C0  mov es, ax
+0012  26 C6 06 00 00 41  mov byte es:[0], 'A'
+0018  6A 00  push 0
+001A  07  pop es
+001B  6A 27  push 0027h
+001D  9A FF FF 00 00  call far DosUnlockSeg  @001E far DOSCALLS.123
+0022  68 00 20  push 8192
+0025  1E  push ds
+0026  6A 00  push 0
+0028  6A 00  push 0
+002A  9A FF FF 00 00  call far DosAllocSeg  @002B far DOSCALLS.34
+002F  B8 2F 00  mov ax, 002Fh
+0032  8E C0  mov es, ax
+0034  6A 00  push 0
+0036  07  pop es
+0037  68 00 30  push 12288
+003A  6A 27  push 0027h
+003C  9A FF FF 00 00  call far DosReallocSeg  @003D far DOSCALLS.38
+0041  6A 01  push 1
+0043  6A 00  push 0
+0045  9A FF FF 00 00  call far DosExit  @0046 far DOSCALLS.5
+segment 2 data size=16 auto
+"""
+GROWN = """\
+memory = {}
+swap = 64
+segments = 64
+budget = 1000
+quantum = 1000
+modules = ["grows.exe"]
+script = ["1:23", "discard"]
+[[process]]
+module = "GROWS"
+"""
+
+
+def stops():
+    kept_as("grows.exe", ne.Listing(GROWS).file())
+    # 74 bytes of code, 528 of data and stack, and the new size, in whole paragraphs
+    room = 80 + 528 + 12288
+    for title, size, steps, status, last in (("room enough", room, 1000, 0, "all ended\n"),
+                                             ("a paragraph less", room - 16, 1000, 8, "stop room\nos2run: no room\n"),
+                                             ("before the word", room - 16, 23, 0, "budget spent\n")):
+        ended, console, report = dump(with_budget(GROWN.format(size), steps))
+        wants(f"{title}: its end", ended == status and report.endswith(f"\n{last}"), (ended, report))
+        core = read(title, console)
+        if core is None or last == "all ended\n":
+            continue
+        as_shown(title, core, console)
+        wants(f"{title}: steps", core.steps == 23, core.steps)
+        limit, base, access, number, holds = core.processes[1][3][4]
+        entry = core.segments[number]
+        marks = (limit, base, access & 0x80, holds, entry.size, entry.flags, entry.lock, entry.clean)
+        wants(f"{title}: what is held", marks == (8191, 0, 0, 1, 8192, 4, 0, 0), marks)
+        kind = entry.place and entry.place[0]
+        if status == 8:
+            wants(f"{title}: it is discarded", (entry.gone, entry.kept, kind, entry.bytes) == (1, 0, None, bytes(8192)), (entry.gone, entry.kept, kind))
+        else:
+            wants(f"{title}: it is in blocks", (entry.gone, kind, entry.bytes) == (0, "swap", b"A".ljust(8192, b"\0")), (entry.gone, kind))
 
 
 def everywhere():
@@ -415,4 +500,4 @@ def damage():
 
 
 if __name__ == "__main__":
-    trying.frame("dumps", __doc__, {"calls": calls, "examples": examples, "damage": damage})
+    trying.frame("dumps", __doc__, {"calls": calls, "examples": examples, "stops": stops, "damage": damage})

@@ -7,6 +7,7 @@
     calls      the same of programs that make, free, lock and size segments and runs of them (tools/lib/calls_at_random.py).
     sharing    the same of two to eight programs that share segments, too: by name, by gift, and by asking for a selector. What each holds is
                computed from the report by tools/reach.py, and must be what it holds here, and what the programs see of it by LAR.
+    discards   the same of one to four processes that share segments which a script discards now and then.
     heaps      the same of two processes that share a segment and call on a heap in it (tools/lib/heaps_at_random.py), where no unit may be
                taken twice without being given back in between; and a heap of 8,191 free blocks.
     examples   each example in the least memory in which it isn't stopped, which must write what it writes in an ample one, and in 16
@@ -35,7 +36,7 @@ from trying import EXAMPLES, program, wants
 import ne
 import reach
 import row_programs
-from calls_at_random import Callers, Sharer
+from calls_at_random import Callers, Discarder, Sharer
 from heaps_at_random import Heaper
 
 LEAST, MOST = 4096, 16_777_216
@@ -277,6 +278,33 @@ class Sharing(Calling):
     """Processes that share segments, too."""
 
     FEWEST, MOST, KIND = 2, 8, Sharer
+
+
+class Discarding(Calling):
+    """Processes whose segments a script discards now and then: slices in any order first, and words between them."""
+
+    FEWEST, MOST, KIND = 1, 4, Discarder
+
+    def __init__(self, dice):
+        self.dice, self.script = dice, []
+        super().__init__(dice)
+
+    def turns(self):
+        for _ in range(self.dice.randrange(300)):
+            if self.is_stuck() or not any(it.live for it in self.modules):
+                break
+            if self.dice.random() < 0.2:
+                self.script.append("discard")
+                self.discard()
+            it, count = self.dice.choice(self.modules), self.dice.randint(1, 8)
+            self.script.append(f"{it.pid}:{count}")
+            for _ in range(count):
+                if it.live and not self.is_stuck():
+                    yield self.step(it)
+        yield from super().turns()
+
+    def text(self, memory, swap):
+        return "script = [" + ", ".join(f'"{word}"' for word in self.script) + "]\n" + super().text(memory, swap)
 
 
 class Heaping(Calling):
@@ -729,8 +757,8 @@ def every_size():
     is_every_size = True
 
 
-PARTS = {"random": at_random, "calls": lambda: at_random(Calling, 100), "sharing": lambda: at_random(Sharing, 100), "heaps": heaps, "examples": examples,
-         "rows": rows, "full": full_run, "swap": swap_file}
+PARTS = {"random": at_random, "calls": lambda: at_random(Calling, 100), "sharing": lambda: at_random(Sharing, 100),
+         "discards": lambda: at_random(Discarding, 100), "heaps": heaps, "examples": examples, "rows": rows, "full": full_run, "swap": swap_file}
 EVERY_SIZE = "run the programs at random in each memory from their room to 1 MiB in steps of 4,096 bytes, too: some 100,000 runs"
 
 if __name__ == "__main__":

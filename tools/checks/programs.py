@@ -92,7 +92,7 @@ def check_ends():
         ("no.core", 3, "os2core: the file no.core isn't there\n"),
         ("folder", 3, "os2core: the file folder can't be read\n"),
         ("empty.exe", 1, "os2core: empty.exe is no core image: it ends at 0h, within a field\n"),
-        ("hello.exe", 1, "os2core: hello.exe is no core image: it doesn't begin with OS2CORE1\n"),
+        ("hello.exe", 1, "os2core: hello.exe is no core image: it doesn't begin with OS2CORE1 or OS2CORE2\n"),
     ):
         for words in (["show", word], ["svg", word], ["segment", word, "0"], ["difference", word, "small.core"], ["difference", "small.core", word]):
             ends("os2core", words, status, "", wrongs)

@@ -109,7 +109,7 @@ def words_and_files():
         file.write((TOP + PROCESS).replace("1048576", "4096").replace("2048", "0"))
     run = subprocess.run([program(), "dump", "a.toml"], stdin=subprocess.DEVNULL, capture_output=True)
     tells("a dump", (run.returncode, run.stdout[:25].hex(" "), run.stdout[-4:], len(run.stdout), run.stderr.splitlines()[-1:]),
-          (0, "4f 53 32 43 4f 52 45 31 00 10 00 00 00 00 00 00 00 00 00 00 01 00 00 00 0a", b"END!", 4178, [b"all ended"]))
+          (0, "4f 53 32 43 4f 52 45 32 00 10 00 00 00 00 00 00 00 00 00 00 01 00 00 00 0a", b"END!", 4178, [b"all ended"]))
     wants("no such machine file to dump", ["dump", "no.toml"], 2, "os2run: no file no.toml")
     wants("no such file", ["exe", "no.exe"], 2, "os2run: no file no.exe")
     wants("no such machine file", ["run", "no.toml"], 2, "os2run: no file no.toml")

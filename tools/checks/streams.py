@@ -159,7 +159,7 @@ def dumps(folder):
         return done.returncode, done.stdout, done.stderr
 
     whole = dump()
-    wants("a dump", (whole[0], whole[1][:8], whole[1][-4:]) == (0, b"OS2CORE1", b"END!"), whole)
+    wants("a dump", (whole[0], whole[1][:8], whole[1][-4:]) == (0, b"OS2CORE2", b"END!"), whole)
     wants("a dump, one byte a call", dump(LD_PRELOAD=library) == whole, dump(LD_PRELOAD=library))
     _, console, report = whole
     told = b"os2run: output fault\n"

@@ -527,7 +527,7 @@ def manners():
     """Each tool: help with status 0 on the standard output, wrong words with 2, and no traceback where nobody reads. None of them leaves a file."""
     every = sorted(os.path.join(room, name) for room in ("", "checks", "make") for name in os.listdir(os.path.join(TOOLS, room))
                    if name.endswith(".py") and os.access(os.path.join(TOOLS, room, name), os.X_OK))
-    every += [os.path.join("..", name) for name in ("look", "bench/speed", "bench/swaps", "bench/damage")]
+    every += [os.path.join("..", name) for name in ("look", "bench/speed", "bench/swaps", "bench/discards", "bench/damage")]
     wants("a dozen tools", len(every) > 20, every)
     os.mkdir("manners")
     for tool in every:

@@ -125,9 +125,61 @@ def check_core():
         memory[0x101] = 0xEE
         out.write(core_image.image(bytes(memory), 4, [segment(20, 0, None, 1), segment(256, 256, ("memory", 256), 1, 2)], [], 1001, 28))
     check_difference()
+    check_forms()
+    check_discarded()
     check_damage(small)
     check_picture()
     check_words("os2core", ["show"], {"show": (), "svg": (), "segment": ("NUMBER",), "difference": ("OTHER",)})
+
+
+def check_forms():
+    """Images of the second form tell of discarded segments; those of the first form can't."""
+    for form, gone in ((2, 1), (2, 0), (1, 0)):
+        with open("form.core", "wb") as out:
+            out.write(core_image.image(bytes(64), 0, [segment(16, 0, None, 4, gone=gone, form=form)], [], form=form))
+        marks = ", discarded" if gone else ""
+        check_shown(f"form {form}", listing(bytes(16), f"segment 0: 16 bytes, 0 kept, flags 04h, lock 0{marks}; zeros"), "segment", "form.core", "0")
+
+
+DISCARDED = """\
+memory 64 bytes, swap device 1 blocks, 2 segments, 1 processes
+7 steps, 0 console bytes
+
+memory
+  000000h 000010h  free
+  000010h 000030h  segment 0: 32 bytes, 32 kept, flags 04h, lock 0; held by 1:0027h
+  000030h 000040h  free
+
+not in memory
+  segment 1: 16 bytes, 0 kept, flags 04h, lock 0, discarded; zeros; held by 1:002Fh
+
+swap device, 0 of 1 blocks in use
+
+process 1 lives
+  AX=0000 BX=0000 CX=0000 DX=0000 SI=0000 DI=0000 BP=0000 SP=0000 FL=0002
+  CS:IP=000F:0000 DS=0000 ES=0000 SS=0000
+  0027h segment 0, held 1 times, base 000010h, limit 001Fh, access F3h, present
+  002Fh segment 1, held 2 times, base 000000h, limit 000Fh, access 73h
+"""
+
+
+def check_discarded():
+    """A discarded segment is told as such, and has a hollow square in the legend of a picture."""
+    for name, gone in (("discarded.core", 1), ("kept.core", 0)):
+        segments = [segment(32, 32, ("memory", 16), 4), segment(16, 0, None, 4, gone=gone)]
+        entries = [core_image.held(4, 31, 16, 0xF3, 0, 1), core_image.held(5, 15, 0, 0x73, 1, 2)]
+        with open(name, "wb") as out:
+            out.write(core_image.image(bytes(64), 1, segments, [core_image.process(1, 0, 0, entries, flags=2, cs=0x0F)], 7))
+    check_shown("show", DISCARDED, "show", "discarded.core")
+    lines = ["- segment 1: 16 bytes, 0 kept, flags 04h, lock 0; zeros", "+ segment 1: 16 bytes, 0 kept, flags 04h, lock 0, discarded; zeros"]
+    check_shown("difference", "\n".join(lines) + "\n", "difference", "kept.core", "discarded.core")
+    trying.count()
+    status, text = said("os2core", "svg", "discarded.core")
+    keys = re.findall(r'<rect x="(\d+)" y="456" width="16" height="16" (.*)/>\n<text .*>(.*)</text>', text)
+    wanted = [("0", 'fill="hsl(275,65%,72%)"', "1:0027, segment 0, 32 bytes"),
+              ("240", 'fill="none" stroke="hsl(72,65%,72%)" stroke-width="2"', "1:002F, segment 1, 16 bytes, discarded")]
+    if status or keys != wanted:
+        wrong(f"os2core svg of a discarded segment: status {status}, {keys}; wanted {wanted}")
 
 
 def check_difference():
@@ -161,7 +213,7 @@ def check_picture():
     parts = [(0, 24, 480, fills["1:001F"], keys[1] + ", 000040h"),
              *((0, 24 * (4 + k), 960, fills["1:002F"], f"{keys[3]}, {256 + 64 * k:06X}h") for k in range(4)),
              (0, 408, 240, fills["1:0027"], keys[2] + ", block 0"), (480, 408, 240, fills["1:0027"], keys[2] + ", block 2")]
-    whole = (title, parts, [(fills[key.partition(",")[0]], key) for key in keys])
+    whole = (title, parts, [(core_shown.square(fills[key.partition(",")[0]], False), key) for key in keys])
     if status or core_shown.picture_shown(text) != whole or core_shown.picture(core_image.Read(core_image.small())) != whole:
         wrong(f"os2core svg: status {status}, {core_shown.picture_shown(text)}; wanted {whole}")
     trying.count()

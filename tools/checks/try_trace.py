@@ -2,6 +2,7 @@
 import os
 import re
 import select
+import shutil
 import subprocess
 
 import ne
@@ -53,6 +54,7 @@ def check_trace():
     read_in_between()
     written_by_another()
     waits()
+    words()
 
 
 def waits():
@@ -74,6 +76,47 @@ def waits():
     status, text = said("os2trace", "run", "stands.toml")
     if status or "waits" in text or text.splitlines()[-1:] != ["| budget spent"]:
         wrong(f"os2trace, a jump to itself: status {status}, {text.splitlines()[-3:]}")
+
+
+def before_words(text):
+    """How many steps a trace shows before each word of the script."""
+    steps, found = 0, []
+    for line in text.splitlines():
+        steps += bool(re.match(r"\d", line))
+        if line == "discard":
+            found.append(steps)
+    return found
+
+
+def words():
+    """A word `discard` of the script has a line before the step that follows it, as often as it stands there. One that no step follows has none."""
+    for options, wanted in (([], [216]), (["--from", "217"], [0]), (["--from", "218"], []), (["--to", "216"], []), (["--to", "217"], [216]), (["--process", "2"], [0])):
+        trying.count()
+        status, text = said("os2trace", "run", *options, "cache.toml", cwd=os.path.join(EXAMPLES, "memory"))
+        if status or before_words(text) != wanted:
+            wrong(f"os2trace {' '.join(options)} cache.toml: status {status}, words behind steps {before_words(text)}; wanted {wanted}")
+    shutil.copy(os.path.join(EXAMPLES, "hello.exe"), ".")
+    for budget, wanted in ((1000, [0, 0, 4]), (5, [0, 0, 4]), (4, [0, 0]), (1, [0, 0]), (0, [])):
+        trying.count()
+        with open("words.toml", "w") as file:
+            file.write(f'memory = 65536\nswap = 0\nsegments = 64\nbudget = {budget}\nquantum = 3\nmodules = ["hello.exe"]\n'
+                       'script = ["discard", "9:5", "discard", "1:4", "discard", "1:6", "discard"]\n[[process]]\nmodule = "HELLO"\n')
+        status, text = said("os2trace", "run", "words.toml")
+        if status or before_words(text) != wanted:
+            wrong(f"os2trace words.toml, budget {budget}: status {status}, words behind steps {before_words(text)}; wanted {wanted}")
+    for load, wanted in (("8E 06 00 00  mov es,[0]", 11), ("8E 16 00 00  mov ss,[0]", 12)):
+        trying.count()
+        with open("drops.exe", "wb") as file:
+            file.write(ne.Listing("module DROPS\nstack 512\nstart 1:0000\nsegment 1 code\n0000  6A 10 1E 6A 00 6A 04\n"
+                                  "0007  9A FF FF 00 00  call DosAllocSeg @0008 far DOSCALLS.34\n000C  FF 36 00 00  push word [0]\n"
+                                  f"0010  9A FF FF 00 00  call DosUnlockSeg @0011 far DOSCALLS.123\n0015  {load}\nsegment 2 data auto size=16\n").file())
+        with open("drops.toml", "w") as file:
+            file.write('memory = 65536\nswap = 0\nsegments = 64\nbudget = 100\nquantum = 9\nmodules = ["drops.exe"]\n'
+                       'script = ["1:7", "discard"]\n[[process]]\nmodule = "DROPS"\n')
+        status, text = said("os2trace", "run", "drops.toml")
+        told = [line for line in text.splitlines() if line.startswith("!")]
+        if status or before_words(text) != [7] or told != [f"! exception {wanted}, error code 0024"]:
+            wrong(f"os2trace drops.toml, {load}: status {status}, words behind steps {before_words(text)}, {told}; wanted exception {wanted}")
 
 
 def traced(code):

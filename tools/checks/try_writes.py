@@ -14,6 +14,8 @@ REGISTERS = {"AX", "BX", "CX", "DX", "SI", "DI", "BP", "SP", "CS", "DS", "ES", "
 KEYS = {"step", "process", "cs", "ip", "code", "text", "before", "after", "writes", "trap", "console", "report", "call", "end", "waits"}
 # The keys of a process that waits at the end of the run.
 WAITER = {"process", "cs", "ip", "waits"}
+# The key of a word of the script.
+WORD = {"word"}
 
 # How many steps of an example are looked at.
 STEPS = 600
@@ -35,7 +37,7 @@ def objects(title, text):
             wrong(f"{title}: {line!r} is no JSON: {why}")
             continue
         keys = set(found[-1])
-        if keys not in (KEYS, {"report"}, WAITER):
+        if keys not in (KEYS, {"report"}, WAITER, WORD):
             wrong(f"{title}: the keys {sorted(keys)}")
     return found
 
@@ -75,6 +77,8 @@ def as_lines(it):
     """The lines of an object in the other form, but for the text that is a column's."""
     if set(it) == WAITER:
         return [f"process {it['process']} waits at {it['cs']:04X}:{it['ip']:04X} in {it['waits']}"]
+    if set(it) == WORD:
+        return [it["word"]]
     if "step" not in it:
         return ["| " + shown(line) for line in it["report"]]
     before, after, count = it["before"], it["after"], len(it["code"]) // 2
@@ -161,16 +165,25 @@ def differences(first, second, dropped):
     return found, numbers
 
 
+def between_words(begin, end, words):
+    """The parts of these steps in which no word `discard` comes, which changes bytes by itself. The image behind the steps before a word is one
+    from before the word."""
+    cuts = [word for word in words if begin <= word < end]
+    return [part for part in zip([begin, *(cut + 1 for cut in cuts)], [*cuts, end]) if part[0] < part[1]]
+
+
 def check_cores(title, name, stdin, cwd):
     """What the steps between two core images wrote, taken together, is how the images differ."""
     text = memory.example_text(cwd, name, memory.AMPLE)
     with open(os.path.join(cwd, "whole.toml"), "w") as file:
         file.write(text)
-    steps = [it for it in objects(title, traced(["run", "--json", "--to", str(STEPS), "whole.toml"], stdin, cwd)[1]) if "step" in it]
+    found = objects(title, traced(["run", "--json", "--to", str(STEPS), "whole.toml"], stdin, cwd)[1])
+    steps = [it for it in found if "step" in it]
+    words = [sum("step" in it for it in found[:place]) for place, it in enumerate(found) if set(it) == WORD]
     # the last image is taken before the first process ends, since an end takes its segments away
     last = next((it["step"] for it in steps if it["end"]), len(steps) + 1) - 1
     compared = 0
-    for begin, end in {(0, last // 2), (last // 3, last), (0, last), (last - 1, last)}:
+    for begin, end in {part for whole in ((0, last // 2), (last // 3, last), (0, last), (last - 1, last)) for part in between_words(*whole, words)}:
         if not 0 <= begin < end:
             continue
         cores = [core_behind(text, count, stdin, cwd) for count in (begin, end)]

@@ -38,7 +38,7 @@ class Segment:
     def __init__(self, content, flags=0, is_code=False):
         """Some bytes, or so many zeros."""
         self.bytes, self.flags, self.is_code = bytearray(content), flags, is_code
-        self.lock = 1 if flags & 4 else 0
+        self.lock, self.gone = 1 if flags & 4 else 0, False
         # which units of a heap in it are taken, where that is known
         self.taken = None
 
@@ -50,7 +50,7 @@ class Hold:
 
 
 class Trap(Exception):
-    """The process ends by exception 13."""
+    """The process ends by an exception, 13 where none is given."""
 
 
 class Waits(Exception):
@@ -92,8 +92,8 @@ class Process:
         at, act = self.steps.pop(0)
         try:
             act()
-        except Trap:
-            self.lines.append(f"{self.pid} end trap 13 at {8 * CODE + 7:04X}:{at:04X}")
+        except Trap as trap:
+            self.lines.append(f"{self.pid} end trap {(trap.args or [13])[0]} at {8 * CODE + 7:04X}:{at:04X}")
             self.end()
         except Waits as semaphore:
             self.steps.insert(0, (at, act))
@@ -108,6 +108,8 @@ class Process:
             hold = self.under(selector)
             if not hold:
                 raise Trap
+            if hold.segment.gone:
+                raise Trap(11)
             self.touched.append(hold.segment)
         return selector
 
@@ -133,7 +135,10 @@ class Process:
 
     def go(self, selector):
         """A far call of an alias, or the way back from it."""
-        self.touched.append(self.under(selector).segment)
+        segment = self.under(selector).segment
+        if segment.gone:
+            raise Trap(11)
+        self.touched.append(segment)
         self.cs = selector
 
     def tell(self):
@@ -142,7 +147,7 @@ class Process:
     def pointer(self, selector, at, count, writes):
         """The bytes behind a pointer of a call."""
         hold = self.under(selector)
-        if not hold:
+        if not hold or hold.segment.gone:
             raise Trap
         self.touched.append(hold.segment)
         if writes and hold.kind != "data" or at + count > len(hold.segment.bytes):
@@ -152,7 +157,7 @@ class Process:
     def text(self, selector, at):
         """The text behind a pointer, up to its zero; without a zero among its first 129 bytes these."""
         hold = self.under(selector)
-        if not hold:
+        if not hold or hold.segment.gone:
             raise Trap
         self.touched.append(hold.segment)
         front = bytes(hold.segment.bytes[at : at + 129])
@@ -202,10 +207,13 @@ class Process:
 
     def realloc(self, size, selector):
         hold, full = self.under(selector), size or 65536
-        refused = not hold or hold.kind != "data" or hold.run or selector >> 3 >= SHARED and full < len(hold.segment.bytes)
+        shrinks = hold and full < len(hold.segment.bytes)
+        refused = not hold or hold.kind != "data" or hold.run or selector >> 3 >= SHARED and shrinks and not hold.segment.flags & 8
         if not refused:
             del hold.segment.bytes[full:]
             hold.segment.bytes.extend(bytes(full - len(hold.segment.bytes)))
+            if hold.segment.gone:
+                hold.segment.lock, hold.segment.gone = 1, False
         self.back("DosReallocSeg", f"{size:04X} {selector:04X}", 5 if refused else 0)
 
     def free(self, selector):
@@ -228,7 +236,7 @@ class Process:
 
     def lock(self, selector):
         hold = self.under(selector)
-        error = 0 if hold and hold.segment.flags & 4 else 5
+        error = 5 if not hold or not hold.segment.flags & 4 else 157 if hold.segment.gone else 0
         if not error:
             hold.segment.lock = min(hold.segment.lock + 1, 255)
         self.back("DosLockSeg", f"{selector:04X}", error)
@@ -716,6 +724,54 @@ class Sharer(Process):
             self.copies = [*self.copies, (index, self.held[index].segment, at)]
 
 
+class Discarder(Sharer):
+    """A process that has segments which may be discarded, lets them go, and asks for them again."""
+
+    def new_flags(self):
+        return self.dice.choice([super().new_flags(), 4, 5, 6, 7, 12, 15])
+
+    def choices(self):
+        mine = [self.choose_alloc, self.choose_lock, self.choose_unlock, self.choose_unlock, self.choose_realloc, self.choose_null]
+        return [*super().choices(), *mine * 6]
+
+    def gone(self):
+        return [index for index in self.made() if self.held[index].segment.gone]
+
+    def any(self, indexes):
+        """Mostly what isn't discarded: a process that uses what is ends."""
+        gone = self.gone() if self.dice.random() < 0.97 else []
+        return super().any([index for index in indexes if index not in gone])
+
+    def front(self):
+        selector, count = super().front()
+        spares = selector and self.under(selector).segment.gone and self.dice.random() < 0.9
+        return (None, None) if spares else (selector, count)
+
+    def choose_lock(self):
+        gone = self.gone()
+        if not gone:
+            super().choose_lock()
+            return
+        selector = 8 * self.dice.choice(gone) + 7
+        self.call(9, lambda: self.lock(selector), selector)
+
+    def choose_unlock(self):
+        locked = [index for index in self.made() if self.held[index].segment.lock]
+        if not locked or self.dice.random() < 0.2:
+            super().choose_unlock()
+            return
+        selector = 8 * self.dice.choice(locked) + 7
+        self.call(10, lambda: self.unlock(selector), selector)
+
+    def choose_realloc(self):
+        gone = self.gone()
+        if not gone or self.dice.random() < 0.2:
+            super().choose_realloc()
+            return
+        size, selector = self.new_size(), 8 * self.dice.choice(gone) + 7
+        self.call(6, lambda: self.realloc(size, selector), size, selector)
+
+
 class Callers:
     """Processes in turns, each with a program of its own, and all that the boundless machine writes of them, step by step."""
 
@@ -741,8 +797,18 @@ class Callers:
         return list({id(hold.segment): hold.segment for it in self.modules for hold in it.held.values()}.values())
 
     def stand(self):
-        """Each segment but code with its size and its lock count, which calls and ends alone change: steps that have lines."""
-        return {id(segment): (segment, len(segment.bytes), segment.lock) for segment in self.names() if not segment.is_code}
+        """Each segment but code with its size, its lock count and the bytes that it has, which calls, ends and words alone change: steps that
+        have lines."""
+        parts = ((segment, len(segment.bytes)) for segment in self.names() if not segment.is_code)
+        return {id(segment): (segment, size, segment.lock, 0 if segment.gone else size) for segment, size in parts}
+
+    def discard(self):
+        """The word `discard`: what isn't locked, and stands in no segment register of a process that lives."""
+        seated = {id(segment) for it in self.modules if it.live for segment in it.seats()}
+        for segment in self.names():
+            if segment.flags & 4 and not segment.lock and id(segment) not in seated:
+                segment.bytes, segment.gone = bytearray(len(segment.bytes)), True
+        self.standing = self.stand()
 
     def left(self):
         """How many segments more may live."""
@@ -797,10 +863,11 @@ class Callers:
         if it.lines:
             self.standing = self.stand()
         sides = [old, self.standing] if it.lines else [old]
-        most = {name: whole(max(side[name][1] for side in sides if name in side)) for side in sides for name in side}
-        counted = {id(segment) for segment in need} | {name for side in sides for name, (_, _, lock) in side.items() if lock}
-        room, load = sum(most[name] for name in counted if name in most), sum(most.values())
-        blocks = sum(-(-size // 512) for _, size, _ in old.values())
+        names = {name for side in sides for name in side}
+        most, kept = ({name: whole(max(side[name][part] for side in sides if name in side)) for name in names} for part in (1, 3))
+        counted = {id(segment) for segment in need} | {name for side in sides for name, (_, _, lock, _) in side.items() if lock}
+        room, load = sum(kept[name] for name in counted if name in kept), sum(most.values())
+        blocks = sum(-(-size // 512) for _, size, _, _ in old.values())
         self.told += len(it.lines)
         self.written += len(it.piece)
         if it.lines and self.told % 16 == 0:

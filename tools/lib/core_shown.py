@@ -7,8 +7,8 @@ def selector(index):
 
 
 def fields(entry):
-    clean = ", clean" if entry.clean else ""
-    return f"{entry.size} bytes, {entry.kept} kept, flags {entry.flags:02X}h, lock {entry.lock}{clean}"
+    marks = (", clean" if entry.clean else "") + (", discarded" if entry.gone else "")
+    return f"{entry.size} bytes, {entry.kept} kept, flags {entry.flags:02X}h, lock {entry.lock}{marks}"
 
 
 def place(entry):
@@ -110,7 +110,8 @@ def drawn(core, number):
     """The colour of a segment in a picture, and its words."""
     holder = first_holder(core, number)
     name = "no process" if holder is None else f"{holder[0]}:{8 * holder[1] + 7:04X}"
-    return colour(holder), f"{name}, segment {number}, {core.segments[number].size} bytes"
+    gone = ", discarded" if core.segments[number].gone else ""
+    return colour(holder), f"{name}, segment {number}, {core.segments[number].size} bytes{gone}"
 
 
 def picture_parts(core):
@@ -133,10 +134,15 @@ def picture_parts(core):
         yield left, 408, max(right - left, 1), fill, f"{words}, block {block}"
 
 
+def square(colour, is_gone):
+    """How a segment's square in the legend is drawn: hollow where the segment was discarded."""
+    return f'fill="none" stroke="{colour}" stroke-width="2"' if is_gone else f'fill="{colour}"'
+
+
 def legend(core):
-    """Colour and words of each segment that is held, by its first holder."""
-    numbers = [number for number in range(len(core.segments)) if first_holder(core, number)]
-    return [drawn(core, number) for number in sorted(numbers, key=lambda number: first_holder(core, number))]
+    """Square and words of each segment that is held, by its first holder."""
+    numbers = sorted((number for number in range(len(core.segments)) if first_holder(core, number)), key=lambda number: first_holder(core, number))
+    return [(square(fill, core.segments[number].gone), words) for number in numbers for fill, words in [drawn(core, number)]]
 
 
 def picture_title(core):
@@ -151,7 +157,7 @@ def picture_shown(text):
     if not box or not ground or not titles or box.groups()[2:] != ground.groups() or box.groups()[:2] != ground.groups()[2:]:
         return None
     found = re.findall(r'<rect x="(\d+)" y="(\d+)" width="(\d+)" height="\d+" fill="([^"]*)"><title>([^<]*)</title></rect>', text)
-    keys = re.findall(r'<rect x="(\d+)" y="(\d+)" width="16" height="16" fill="([^"]*)"/>\n<text x="(\d+)" y="(\d+)">([^<]*)</text>', text)
+    keys = re.findall(r'<rect x="(\d+)" y="(\d+)" width="16" height="16" ([^>]*)/>\n<text x="(\d+)" y="(\d+)">([^<]*)</text>', text)
     bottom = int(ground[4]) + int(ground[2])
     for place, (left, top, _, words, line, _) in enumerate(keys):
         if (int(left), int(top)) != (240 * (place % 4), 456 + 24 * (place // 4)) or int(words) != int(left) + 22 or int(line) != int(top) + 12 or int(line) + 4 > bottom:

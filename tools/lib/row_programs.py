@@ -12,6 +12,7 @@ HEADINGS = (
     "calls on segments",
     "calls on heaps inside a segment",
     "calls by which processes share segments",
+    "segments that are discarded",
     "calls on semaphores",
     "calls on huge allocations",
     "each argument of each call is refused",

@@ -42,10 +42,11 @@ def setting_of(text):
 
 
 class Segment:
-    """Bytes that somebody holds. They lie at `base` in the memory of the other processor, each segment apart from all others."""
+    """Bytes that somebody holds. They lie at `base` in the memory of the other processor, each segment apart from all others. A discardable one
+    has a count of locks, and one that was discarded is gone."""
 
     def __init__(self, base, size):
-        self.base, self.size = base, size
+        self.base, self.size, self.is_discardable, self.lock, self.gone = base, size, False, 0, False
 
 
 class Module:
@@ -154,8 +155,8 @@ class Written:
         self.linked, self.source, self.count = Linked(files, setting.get("shim")), source, 0
         self.run = subprocess.Popen([processor], stdin=subprocess.PIPE, stdout=subprocess.PIPE, text=True)
         # segments that all processes share; images by the module's place and the segment's number, and of environments by 0 and the
-        # process; how many segments each run has; and what a call makes
-        self.common, self.processes, self.images, self.runs, self.news = {}, {}, {}, {}, []
+        # process; how many segments each run has; what a call makes, and whether that is discardable
+        self.common, self.processes, self.images, self.runs, self.news, self.is_discardable = {}, {}, {}, {}, [], False
         for number, module in enumerate(self.linked.modules, 1):
             for segment in range(1, len(module.table) + 1):
                 self.images[number, segment] = self.linked.image(module, segment)
@@ -234,10 +235,18 @@ class Written:
             selector, at = pointers[-1]
             form = "<I" if name in ("DosMemAvail", "DosSizeSeg") else f"<{len(given)}H"
             self.put(held[selector | 3][0], at, struct.pack(form, *given))
+        self.is_discardable = name == "DosAllocSeg" and numbers[1] & 4 != 0
         if name in ("DosAllocSeg", "DosAllocShrSeg"):
             self.news = [numbers[0] or 65536]
         elif name == "DosReallocSeg":
-            self.sized(held[numbers[1] | 3][0], numbers[0] or 65536)
+            segment = held[numbers[1] | 3][0]
+            self.sized(segment, numbers[0] or 65536)
+            if segment.gone:
+                segment.lock, segment.gone = 1, False
+        elif name in ("DosLockSeg", "DosUnlockSeg"):
+            segment = held[numbers[0] | 3][0]
+            if segment.lock < 255:
+                segment.lock += 1 if name == "DosLockSeg" else -1
         elif name == "DosCreateCSAlias":
             self.news = [held[numbers[0] | 3][0]]
         elif name in ("DosAllocHuge", "DosReallocHuge"):
@@ -260,12 +269,26 @@ class Written:
         """The segment that processes share under a selector, if one of them holds it."""
         return next((it.held[selector][0] for it in self.processes.values() if selector >> 3 >= SHARED and selector in it.held), None)
 
+    def made_by_call(self, size):
+        segment = self.made(bytes(size), size)
+        segment.is_discardable, segment.lock = self.is_discardable, int(self.is_discardable)
+        return segment
+
+    def discard(self):
+        """The word `discard`: zeros are left of what is discardable, not locked, and in no segment register of a process that lives."""
+        living = [it for it in self.processes.values() if it.is_live]
+        seated = [it.held[it.regs[name] | 3][0] for it in living for name in ("cs", "ss", "ds", "es") if it.regs[name] | 3 in it.held]
+        for segment in [segment for it in self.processes.values() for segment, _ in it.held.values()]:
+            if segment.is_discardable and not segment.lock and segment not in seated:
+                self.put(segment, 0, bytes(segment.size))
+                segment.gone = True
+
     def moved(self, pid, what, selector):
         """A line of a hold or of a drop behind a call."""
         held = self.processes[pid].held
         if what == "hold":
             new = held[selector][0] if selector in held else self.holder(selector) or self.news.pop(0)
-            segment = self.made(bytes(new), new) if isinstance(new, int) else new
+            segment = self.made_by_call(new) if isinstance(new, int) else new
             held[selector] = [segment, 1 + (held[selector][1] if selector in held else 0)]
         elif held[selector][1] > 1:
             held[selector][1] -= 1
@@ -317,8 +340,9 @@ class Written:
         self.lines(behind)
 
     def snapshot(self):
-        """By process and selector the segment, how often it is held, and its bytes; and the registers of those that live."""
-        held = {pid: {selector: (segment.base, holds, self.get(segment)) for selector, (segment, holds) in it.held.items()} for pid, it in self.processes.items()}
+        """By process and selector the segment, how often it is held, its bytes, and whether it was discarded; and the registers of those that live."""
+        held = {pid: {selector: (segment.base, holds, self.get(segment), segment.gone) for selector, (segment, holds) in it.held.items()}
+                for pid, it in self.processes.items()}
         return held, {pid: it.regs for pid, it in self.processes.items() if it.is_live}
 
 
@@ -342,7 +366,9 @@ def snapshots(processor, setting, files, source, trace, wanted):
     if holds != [line for line in start if " hold " in line]:
         raise Astray(f"{start}, where {holds} are loaded")
     found[0] = machine.snapshot()
-    for number, step in enumerate(steps, 1):
+    for number, (before, step) in enumerate(zip([start, *(behind for _, _, behind in steps)], steps), 1):
+        if "discard" in before:
+            machine.discard()
         machine.step(*step)
         if number in wanted or number == len(steps):
             found[number] = machine.snapshot()

@@ -47,7 +47,7 @@ def image(folder, name, steps):
 def where(entry):
     """Where a segment is, in the words of the lessons."""
     if entry.place is None:
-        return "all zeros"
+        return "discarded" if entry.gone else "all zeros"
     return {"image": "not loaded", "memory": f"at {entry.place[1]}", "swap": "in blocks"}[entry.place[0]]
 
 
