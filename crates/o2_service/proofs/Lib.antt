@@ -6,3 +6,5 @@ pub mod Placing
 pub mod Clocks
 pub mod Unheld
 pub mod Movings
+mod Reading
+mod Turns

@@ -66,6 +66,10 @@ none_leaving s t u key keep out e m others k n = elim (cases_eq k out.key) [
   | inr other ↦ others k other ∙ place_chosen s t k e ∙ n
 ]
 
+-- one out of memory isn't one that is there
+pub out_other : (s : Shelf) (k out : ℕ) → place_of s k ≡ None → IsSome (place_of s out) → k ≢ out
+out_other s k out n i same = false≢true (sym (ap is_some (subst (λ (x : ℕ). place_of s x ≡ None) same n)) ∙ i)
+
 pub fewer_leaving : (s t u : Shelf) (key : ℕ) (keep : List SegId) (out : SegId) → t ≡ record s { turns = t.turns; keys = t.keys } → MayLeave s key keep out → (IsSome (place_of t out.key) → length u.places.ranges < length t.places.ranges)
     → length u.places.ranges < length s.places.ranges
 fewer_leaving s t u key keep out e m f =

@@ -11,6 +11,7 @@ ghost use Rattle.o2_store.specs.Needs.{all_wanted, named_in};
 ghost use Rattle.o2_store.specs.Pictures.{picture, HasPicture};
 ghost use Rattle.o2_store.specs.Gaps.{IsGap, SlideFor};
 ghost use Rattle.o2_store.specs.Leaving.{IsStuck, LeaveFor, lacking};
+ghost use Rattle.o2_store.specs.Victims.{LeaveInTurn, TakesNext};
 ghost use Rattle.o2_store.specs.Shelf.{AreClean, HasAll, IsFull, KeepsAll, Pictures, SameTables, entry, entry_of, place_of, rounded};
 ghost use Rattle.o2_service.specs.Told.{Follows, IsHeldWell};
 ghost use Rattle.o2_store.specs.Idle.{Idles, IsIdle, NoneTaken};
@@ -50,9 +51,14 @@ fn make_way<S: SwapDevice>(
         → place_of store.new k ≡ place_of store.old k }
     ensures none { (k : ℕ) → place_of store.old k ≡ None → place_of store.new k ≡ None }
     ensures still { (k : ℕ) → IsSome (place_of store.new k) → place_of store.new k ≡ place_of store.old k }
+    ensures next { result ≡ Brought.Here
+        → TakesNext id.key keep.now (rounded (entry store.old id.key).size) store.old store.new }
+    ensures stays { (result ≡ Brought.Here → ⊥)
+        → (k : ℕ) → place_of store.new k ≡ place_of store.old k }
     ensures leave { LeaveFor store.old store.new (rounded (entry store.old id.key).size) }
     ensures unasked { S.asked swap.new ≡ S.asked swap.old }
-    ensures pile { blocks_of store.new.swap id.key ≡ blocks_of store.old.swap id.key }
+    ensures piles { (k : ℕ) → k < length store.old.entries → place_of store.old k ≡ None
+        → blocks_of store.new.swap k ≡ blocks_of store.old.swap k }
     ensures entry { slot_at store.new.entries id.key ≡ slot_at store.old.entries id.key }
 
     ensures fewer { result ≡ Brought.Here
@@ -99,9 +105,11 @@ fn make_room<S: SwapDevice>(
         → place_of store.new k ≡ place_of store.old k }
     ensures none { (k : ℕ) → place_of store.old k ≡ None → place_of store.new k ≡ None }
     ensures still { (k : ℕ) → IsSome (place_of store.new k) → place_of store.new k ≡ place_of store.old k }
+    ensures turns { LeaveInTurn id.key keep.now (rounded (entry store.old id.key).size) store.old store.new }
     ensures leave { LeaveFor store.old store.new (rounded (entry store.old id.key).size) }
     ensures unasked { S.asked swap.new ≡ S.asked swap.old }
-    ensures pile { blocks_of store.new.swap id.key ≡ blocks_of store.old.swap id.key }
+    ensures piles { (k : ℕ) → k < length store.old.entries → place_of store.old k ≡ None
+        → blocks_of store.new.swap k ≡ blocks_of store.old.swap k }
     ensures entry { slot_at store.new.entries id.key ≡ slot_at store.old.entries id.key }
 
     ensures room { result ≡ Brought.Here
@@ -176,6 +184,7 @@ fn fill_gap<S: SwapDevice>(
     ensures device { KeepsDevice S.blocks S.told S.faults swap.old swap.new
         (result ≡ Brought.SwapFault) }
     ensures map { all_of store.new.swap ≡ all_of store.old.swap }
+    ensures blocks { store.new.swap ≡ store.old.swap }
     ensures follows { Follows regions.old store.new regions.new }
     ensures alone { (k : ℕ) → k ≢ id.key → place_of store.new k ≡ place_of store.old k }
     ensures takes { used store.new.places.ranges + lacking store.new id.key
@@ -221,8 +230,11 @@ fn bring_in<S: SwapDevice>(
     ensures kept { (k : ℕ) → named_in store.old.entries keep.now k ≡ true
         → IsSome (place_of store.old k) → IsSome (place_of store.new k) }
     ensures none { (k : ℕ) → k ≢ id.key → place_of store.old k ≡ None → place_of store.new k ≡ None }
+    ensures turns { LeaveInTurn id.key keep.now (rounded (entry store.old id.key).size) store.old store.new }
     ensures leave { LeaveFor store.old store.new (lacking store.new id.key) }
     ensures slide { SlideFor store.old store.new id.key (rounded (entry store.old id.key).size) }
+    ensures piles { (k : ℕ) → k < length store.old.entries → place_of store.old k ≡ None
+        → blocks_of store.new.swap k ≡ blocks_of store.old.swap k }
     ensures asks { AsksFor (S.known swap.new) (blocks_of store.old.swap id.key) (S.asked swap.old) (S.asked swap.new) (result ≡ Brought.Here) }
 
     ensures here { result ≡ Brought.Here → IsSome (place_of store.new id.key) }
@@ -274,12 +286,18 @@ pub fn bring<S: SwapDevice>(
     ensures kept { (k : ℕ) → named_in store.old.entries keep.now k ≡ true
         → IsSome (place_of store.old k) → IsSome (place_of store.new k) }
     ensures none { (k : ℕ) → k ≢ id.key → place_of store.old k ≡ None → place_of store.new k ≡ None }
+    // Those that leave do so one after the other, each while room is wanting: always the clock's next one outside these.
+    ensures turns { LeaveInTurn id.key keep.now (rounded (entry store.old id.key).size) store.old store.new }
     // None leaves that could have stayed, and none slides where a gap is long enough once those that leave have left.
     ensures leave { LeaveFor store.old store.new (lacking store.new id.key) }
     ensures slide { SlideFor store.old store.new id.key (rounded (entry store.old id.key).size) }
+    // None that is out of memory gets or loses blocks.
+    ensures piles { (k : ℕ) → k < length store.old.entries → place_of store.old k ≡ None
+        → blocks_of store.new.swap k ≡ blocks_of store.old.swap k }
     // Each of its blocks that the device knows is read once, and no other.
     ensures asks { place_of store.old id.key ≡ None
         → AsksFor (S.known swap.new) (blocks_of store.old.swap id.key) (S.asked swap.old) (S.asked swap.new) (result ≡ Brought.Here) }
+    ensures unasked { IsSome (place_of store.old id.key) → S.asked swap.new ≡ S.asked swap.old }
 
     ensures here { result ≡ Brought.Here → IsSome (place_of store.new id.key) }
     ensures out { (result ≡ Brought.Here → ⊥) → place_of store.old id.key ≡ None

@@ -1,7 +1,8 @@
 // What is needed comes into memory, and the descriptors say so.
 ghost use Rattle.std.specs.Prelude.{◌≡◌, ℕ, ◌<◌, ◌≤◌, length, None, true, false, IsSome};
 ghost use Rattle.o2_segbus.specs.Settled.{IsSettled};
-ghost use Rattle.o2_swapmap.specs.Piles.{all_of};
+ghost use Rattle.o2_swapmap.specs.Piles.{all_of, blocks_of};
+ghost use Rattle.o2_store.specs.Asked.{AsksFor};
 ghost use Rattle.o2_store.specs.Frames.{IsBacked, KeepsDevice};
 ghost use Rattle.o2_store.specs.Leaving.{LeaveFor};
 ghost use Rattle.o2_store.specs.Loads.{live_load, swap_load};
@@ -9,6 +10,7 @@ ghost use Rattle.o2_store.specs.Pictures.{picture, HasPicture};
 ghost use Rattle.o2_store.specs.Shelf.{AreClean, HasAll, KeepsAll, entry, entry_of, place_of};
 ghost use Rattle.o2_service.specs.Needs.{AreLive, ArePresent, AreServed, AreWhole, OnlyNeededComes, Stays, all_needed, needs};
 ghost use Rattle.o2_service.specs.Learned.{AreUnused};
+ghost use Rattle.o2_service.specs.Reads.{AsksForNeeded};
 ghost use Rattle.o2_service.specs.Told.{Follows, IsHeldWell, OnlyTables};
 ghost use Rattle.o2_store.specs.Idle.{Idles};
 
@@ -68,6 +70,8 @@ pub fn serve<S: SwapDevice>(
     ensures held { IsHeldWell store.new regions.new }
     ensures stays { Stays need.now store.old store.new }
     ensures only { OnlyNeededComes need.now store.old store.new }
+    // A block that is read is one of a segment that is needed and was out of memory, and none is read twice.
+    ensures asks { AsksForNeeded store.old need.now (S.asked swap.old) (S.asked swap.new) }
     ensures locked { (k : ℕ) → 0 < (entry store.old k).attr.lock → IsSome (place_of store.new k) }
 
     ensures here { result ≡ Served.Here → ArePresent store.new need.now (length need.now) }
@@ -136,6 +140,7 @@ fn bring_all<S: SwapDevice>(
     ensures follows { Follows regions.old store.new regions.new }
     ensures stays { Stays need.now store.old store.new }
     ensures only { OnlyNeededComes need.now store.old store.new }
+    ensures asks { AsksForNeeded store.old need.now (S.asked swap.old) (S.asked swap.new) }
     ensures locked { (k : ℕ) → 0 < (entry store.old k).attr.lock → IsSome (place_of store.new k) }
 
     ensures here { result ≡ Served.Here → ArePresent store.new need.now (length need.now) }
@@ -198,6 +203,11 @@ fn bring_one<S: SwapDevice>(
     ensures follows { Follows regions.old store.new regions.new }
     ensures stays { Stays need.now store.old store.new }
     ensures only { OnlyNeededComes need.now store.old store.new }
+    ensures piles { (k : ℕ) → k < length store.old.entries → place_of store.old k ≡ None
+        → blocks_of store.new.swap k ≡ blocks_of store.old.swap k }
+    ensures asks { place_of store.old id.key ≡ None
+        → AsksFor (S.known swap.new) (blocks_of store.old.swap id.key) (S.asked swap.old) (S.asked swap.new) (result ≡ Served.Here) }
+    ensures unasked { IsSome (place_of store.old id.key) → S.asked swap.new ≡ S.asked swap.old }
 
     ensures here { result ≡ Served.Here → IsSome (place_of store.new id.key) }
     ensures leave { result ≡ Served.Here → LeaveFor store.old store.new 0 }

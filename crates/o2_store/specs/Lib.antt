@@ -10,4 +10,5 @@ pub mod Pictures
 pub mod Shelf
 pub mod Sizes
 pub mod Trials
+pub mod Victims
 pub mod Writing

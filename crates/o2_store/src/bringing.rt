@@ -3,7 +3,7 @@ ghost use Rattle.std.specs.Prelude.{◌≡◌, ◌≢◌, ℕ, ◌+◌, ◌<◌,
 ghost use Rattle.std.specs.Option.{IfNone};
 ghost use Rattle.o2_entries.specs.Tables.{slot_at};
 ghost use Rattle.o2_place.specs.Layout.{IsFree, used};
-ghost use Rattle.o2_place.specs.Marks.{IsKept, IsOutside, IsVictim, place_in};
+ghost use Rattle.o2_place.specs.Marks.{AllUnused, IsKept, IsNext, IsOutside, IsVictim, NoneUnused, OnlyUnmarks, place_in};
 ghost use Rattle.o2_swapmap.specs.Piles.{all_of, blocks_of};
 ghost use Rattle.o2_store.specs.Asked.{AsksFor};
 ghost use Rattle.o2_store.specs.Frames.{IsBacked, KeepsDevice};
@@ -36,6 +36,10 @@ impl Store {
         ensures none { IfNone result ((k : ℕ) → IsSome (place_of self.old k) → (entry self.old k).attr.lock ≡ 0 → IsKept self.old.keys k) }
         ensures victim { IfSome result (λ v. IsVictim self.old.turns.marks self.old.keys v) }
         ensures hand { IfSome result (λ v. self.new.turns.hand ≡ place_in self.old.turns v + 1) }
+        ensures next { IfSome result (λ v. IsNext self.old.turns self.new.turns.marks self.old.keys v) }
+        ensures round { NoneUnused self.old.turns.marks self.old.keys → AllUnused self.old.turns.marks self.new.turns.marks self.old.keys }
+        ensures unmarks { OnlyUnmarks self.old.turns.marks self.new.turns.marks }
+        ensures places { self.new.turns.places ≡ self.old.turns.places }
     {
         self.clock.victim(&self.keys)
     }
@@ -180,6 +184,7 @@ impl Store {
         ensures device { KeepsDevice S.blocks S.told S.faults swap.old swap.new
             (result ≡ Brought.SwapFault) }
         ensures map { all_of self.new.swap ≡ all_of self.old.swap }
+        ensures blocks { self.new.swap ≡ self.old.swap }
         ensures here { result ≡ Brought.Here → IsSome (place_of self.new key) }
         ensures out { (result ≡ Brought.Here → ⊥) → place_of self.new key ≡ None }
         ensures none { (k : ℕ) → k ≢ key → place_of self.old k ≡ None → place_of self.new k ≡ None }

@@ -7,6 +7,7 @@ ghost use Rattle.o2_swapmap.specs.Piles.{blocks_of, all_of, free, OnlyOf};
 ghost use Rattle.o2_store.specs.Frames.{KeepsDevice};
 ghost use Rattle.o2_store.specs.Leaving.{IsWrittenOut, Evicts, LeaveFor};
 ghost use Rattle.o2_store.specs.Loads.{swap_load};
+ghost use Rattle.o2_store.specs.Victims.{HasLeft};
 ghost use Rattle.o2_store.specs.Shelf.{Pictures, KeepsAll, AreClean, place_of, entry_of, entry, rounded, blocks_for, stored_byte, out_byte, IsOther, IsFull, IsSaved, SameTables};
 
 use crate::blocks::{trimmed, write_out};
@@ -130,6 +131,7 @@ impl Store {
         ensures used { used self.new.places.ranges + len_of (place_of self.old key) ≡ used self.old.places.ranges }
         ensures frees { used self.new.places.ranges + rounded (entry self.old key).size ≡ used self.old.places.ranges }
         ensures fewer { length self.new.places.ranges + 1 ≡ length self.old.places.ranges }
+        ensures left { HasLeft self.old.turns self.new.turns key }
         ensures shelf { self.new ≡ record self.old { places = self.new.places; turns = self.new.turns } }
     {
         let _ = self.places.take(key);
@@ -160,6 +162,7 @@ impl Store {
         ensures map { all_of self.new.swap ≡ all_of self.old.swap }
         ensures out { result ≡ Brought.Here → Changes self.old.places self.new.places key None }
         ensures used { result ≡ Brought.Here → used self.new.places.ranges + len_of (place_of self.old key) ≡ used self.old.places.ranges }
+        ensures left { result ≡ Brought.Here → HasLeft self.old.turns self.new.turns key }
         ensures fewer { result ≡ Brought.Here → length self.new.places.ranges + 1 ≡ length self.old.places.ranges }
         ensures keys { (self.new.keys ≡ self.old.keys) × (self.new.places.size ≡ self.old.places.size) }
         ensures stays { (result ≡ Brought.Here → ⊥) → self.new.places ≡ self.old.places }
@@ -220,6 +223,9 @@ impl Store {
         ensures already { place_of self.old id.key ≡ None → (self.new ≡ self.old) × (swap.new ≡ swap.old) }
 
         ensures out { result ≡ Brought.Here → place_of self.new id.key ≡ None }
+        ensures used { result ≡ Brought.Here → IsSome (place_of self.old id.key)
+            → used self.new.places.ranges + len_of (place_of self.old id.key) ≡ used self.old.places.ranges }
+        ensures left { result ≡ Brought.Here → IsSome (place_of self.old id.key) → HasLeft self.old.turns self.new.turns id.key }
         ensures fewer { result ≡ Brought.Here → IsSome (place_of self.old id.key)
             → length self.new.places.ranges < length self.old.places.ranges }
         ensures stale { result ≡ Brought.Stale → entry_of self.old id ≡ None }

@@ -139,6 +139,7 @@ impl Store {
         ensures device { KeepsDevice S.blocks S.told S.faults swap.old swap.new
             (result ≡ false) }
         ensures map { all_of self.new.swap ≡ all_of self.old.swap }
+        ensures blocks { self.new.swap ≡ self.old.swap }
         ensures here { result ≡ true → IsSome (place_of self.new key) }
         ensures out { result ≡ false → place_of self.new key ≡ None }
         ensures none { (k : ℕ) → k ≢ key → place_of self.old k ≡ None → place_of self.new k ≡ None }

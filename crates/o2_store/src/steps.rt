@@ -5,10 +5,11 @@ ghost use Rattle.o2_place.specs.Layout.{IsFree, IsLowestFree, used};
 ghost use Rattle.o2_store.specs.Asked.{AsksFor};
 ghost use Rattle.o2_store.specs.Frames.{IsBacked, KeepsDevice};
 ghost use Rattle.o2_store.specs.Gaps.{IsGap};
-ghost use Rattle.o2_store.specs.Leaving.{MayLeave, lacking};
+ghost use Rattle.o2_store.specs.Leaving.{lacking};
 ghost use Rattle.o2_store.specs.Needs.{all_wanted};
 ghost use Rattle.o2_store.specs.Pictures.{picture, HasPicture};
 ghost use Rattle.o2_store.specs.Shelf.{AreClean, HasAll, KeepsAll, entry, entry_of, place_of, rounded};
+ghost use Rattle.o2_store.specs.Victims.{IsNextOut};
 ghost use Rattle.o2_swapmap.specs.Piles.{all_of, blocks_of};
 ghost use Rattle.o2_store.specs.Idle.{NoneTaken, IsIdle};
 
@@ -52,11 +53,11 @@ impl Store {
     }
 
     /// The segment that leaves the memory next, where room is made for a live one that is to be there together with those of
-    /// `keep` and the locked ones. None only where these are more than the memory.
+    /// `keep` and the locked ones: the clock's next one outside these. None only where these are more than the memory.
     pub fn next_out(&mut self, id: SegId, keep: &[SegId]) -> Option<SegId>
         requires live { IsSome (entry_of self.old id) }
         ensures shelf { self.new ≡ record self.old { turns = self.new.turns; keys = self.new.keys } }
-        ensures some { IfSome result (λ out. MayLeave self.old id.key keep.now out) }
+        ensures some { IfSome result (λ out. IsNextOut self.old self.new.turns id.key keep.now out) }
         ensures none { IfNone result (place_of self.old id.key ≡ None
             → self.old.places.size < used self.old.places.ranges + rounded (entry self.old id.key).size
             → self.old.places.size < all_wanted self.old id.key keep.now) }
@@ -93,6 +94,8 @@ impl Store {
         ensures device { KeepsDevice S.blocks S.told S.faults swap.old swap.new
             (result ≡ Brought.SwapFault) }
         ensures map { all_of self.new.swap ≡ all_of self.old.swap }
+        // No segment gets or loses blocks.
+        ensures blocks { self.new.swap ≡ self.old.swap }
         ensures alone { (k : ℕ) → k ≢ id.key → place_of self.new k ≡ place_of self.old k }
         ensures takes { used self.new.places.ranges + lacking self.new id.key
             ≡ used self.old.places.ranges + rounded (entry self.old id.key).size }

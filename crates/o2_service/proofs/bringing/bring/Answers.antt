@@ -1,4 +1,4 @@
-use Rattle.std.proofs.Common.{◌≡◌, ◌≢◌, ◌<◌, ◌≤◌, ◌∙◌, ap, arith, ℕ, None, IsSome, refl, subst, sym, true, false}
+use Rattle.std.proofs.Common.{◌≡◌, ◌≢◌, ◌<◌, ◌≤◌, ◌∙◌, ap, arith, ℕ, length, None, IsSome, refl, subst, sym, true, false}
 use Rattle.o2_entries.specs.Tables.{slot_at}
 use Rattle.o2_swapmap.specs.Piles.{all_of, blocks_of}
 use Rattle.o2_store.specs.Idle.{NoneTaken}
@@ -9,7 +9,9 @@ use Rattle.o2_store.specs.Shelf.{Shelf, HasAll, entry, entry_of, place_of}
 use Rattle.o2_store.proofs.Asking.{asks_behind, asks_nothing}
 use Rattle.o2_store.proofs.Departing.{leave_same, leave_still, slide_keys}
 use Rattle.o2_store.proofs.Keeping.{keeps_refl, keys_clean, keys_keep}
+use Rattle.o2_store.proofs.Leaving.{some_not_none}
 use Rattle.o2_service.proofs.Movings.{base_none, follows_keys, follows_refl, held_keys, none_based, settled_keys}
+use Rattle.o2_service.proofs.Turns.{leave_unkeyed, nobody_leaves}
 use Rattle.o2_service.proofs.bringing.bring.Goals as goal
 
 pub returns-then-is_some-clause-follows : goal.returns-then-is_some-clause-follows
@@ -31,9 +33,12 @@ returns-then-not-fits g c =
       follows = follows_keys s t c.args.regions.now e c.requires.held c.requires.settled;
       kept = λ k n i. subst (λ (z : Shelf). IsSome (place_of z k)) (sym e) i;
       none = λ k d n. ap (λ (z : Shelf). place_of z k) e ∙ n;
+      turns = nobody_leaves c.args.id.key c.args.keep.now _ s t (λ k. ap (λ (z : Shelf). place_of z k) e);
       leave = leave_still s t _ (ap (λ (z : Shelf). z.places) e);
       slide = λ start k f d i. ap (λ (z : Shelf). place_of z k) e;
+      piles = λ k l n. ap (λ (z : Shelf). blocks_of z.swap k) e;
       asks = λ n. asks_nothing _ _ _ _ _ refl (λ r. absurd cc);
+      unasked = λ i. refl;
       here = λ r. absurd cc;
       out = λ r n. ap (λ (z : Shelf). place_of z c.args.id.key) e ∙ n;
       no_room = λ r. c.fits.ensures.none c.if-not-fits.true;
@@ -81,9 +86,12 @@ returns g c =
       follows = q.follows;
       kept = subst (λ (z : Shelf). (k : ℕ) → named_in z.entries c.args.keep.now k ≡ true → IsSome (place_of z k) → IsSome (place_of u k)) e q.kept;
       none = subst (λ (z : Shelf). (k : ℕ) → k ≢ c.args.id.key → place_of z k ≡ None → place_of u k ≡ None) e q.none;
+      turns = leave_unkeyed s t u c.args.id.key c.args.keep.now e q.turns;
       leave = leave_same s t u _ (ap (λ (z : Shelf). z.places) e) (ap (λ (z : Shelf). z.entries) e) q.leave;
       slide = slide_keys s t u c.args.id.key e q.slide;
+      piles = subst (λ (z : Shelf). (k : ℕ) → k < length z.entries → place_of z k ≡ None → blocks_of u.swap k ≡ blocks_of z.swap k) e q.piles;
       asks = λ n. asks_behind _ _ _ _ _ _ _ _ (ap (λ (z : Shelf). blocks_of z.swap c.args.id.key) e) refl (λ r. r) q.asks;
+      unasked = λ i. absurd (some_not_none (place_of s c.args.id.key) i (base_none (entry_of s c.args.id) (place_of s c.args.id.key) c.requires.live (rw c.base.ensures at (sym c.is_some.ensures ∙ c.if-is_some.false))));
       here = q.here;
       out = λ r n. q.out r;
       no_room = λ r. absurd (q.never.0 r);
@@ -108,3 +116,6 @@ returns-then-is_some-clause-always_no_room g c = λ n l.
 pub returns-then-is_some-clause-asks : goal.returns-then-is_some-clause-asks
 returns-then-is_some-clause-asks g c = λ n.
     absurd (none_based (entry_of c.args.store.now c.args.id) (place_of c.args.store.now c.args.id.key) n (rw c.base.ensures at (sym c.is_some.ensures ∙ c.if-is_some.true)))
+
+pub returns-then-is_some-clause-turns : goal.returns-then-is_some-clause-turns
+returns-then-is_some-clause-turns g c = nobody_leaves c.args.id.key c.args.keep.now _ c.args.store.now c.args.store.now (λ k. refl)

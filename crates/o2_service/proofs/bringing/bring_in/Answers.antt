@@ -11,8 +11,10 @@ use Rattle.o2_store.proofs.Departing.{gap_left, leave_in, leave_out}
 use Rattle.o2_store.proofs.Loads.{out_load}
 use Rattle.o2_store.proofs.Keeping.{keeps_trans, tables_trans, keeps_later}
 use Rattle.o2_service.proofs.Among.{live_same, whole_same}
+use Rattle.o2_service.proofs.Amounts.{live_within}
 use Rattle.o2_service.proofs.Movings.{follows_trans, not_there}
 use Rattle.o2_store.proofs.Framing.{device_behind}
+use Rattle.o2_service.proofs.Turns.{leave_then}
 use Rattle.o2_service.proofs.bringing.bring_in.Goals as goal
 
 pub returns-in_default : goal.returns-in_default
@@ -26,8 +28,10 @@ returns-in_default g c =
       follows = r.follows;
       kept = λ k n i. ap is_some (r.kept k n) ∙ i;
       none = λ k d e. r.none k e;
+      turns = r.turns;
       leave = leave_out c.args.store.now c.make_room.new.store c.args.id.key _ r.tables (r.none c.args.id.key c.requires.out) refl r.leave;
       slide = λ start k f d i. r.still k i;
+      piles = r.piles;
       asks = asks_nothing _ _ _ _ _ r.unasked (λ x. absurd (c.in_default.not-Here x));
       here = λ x. absurd (c.in_default.not-Here x);
       out = λ x. r.none c.args.id.key c.requires.out;
@@ -112,8 +116,10 @@ returns-in-Here g c =
         | inr other ↦ ap is_some (f.alone k other) ∙ (q.presence k ∙ (ap is_some (r.kept k n) ∙ i))
       ];
       none = λ k d e. f.alone k d ∙ not_there (place_of u k) (q.presence k ∙ ap is_some (r.none k e));
+      turns = leave_then key c.args.keep.now _ s t v r.turns present;
       leave = leave_in s t v key (rounded (entry s key).size) later c.requires.out (sym size) takes others none r.leave;
-      asks = asks_behind _ _ _ _ _ _ _ _ (ap (λ (z : Blocks). blocks_of z key) q.blocks ∙ r.pile) r.unasked (λ x. x) f.asks;
+      piles = λ k l n. ap (λ (z : Blocks). blocks_of z k) (f.blocks ∙ q.blocks) ∙ r.piles k l n;
+      asks = asks_behind _ _ _ _ _ _ _ _ (ap (λ (z : Blocks). blocks_of z key) q.blocks ∙ r.piles key (live_within s c.args.id c.requires.live) c.requires.out) r.unasked (λ x. x) f.asks;
       slide = λ start j g n i.
           (let gap = gap_left s t v key start r.tables r.still out present g in
           f.alone j n ∙ (ap (λ (z : Shelf). place_of z j) (q.alone start gap).0 ∙ r.still j (sym (present j n) ∙ i)));

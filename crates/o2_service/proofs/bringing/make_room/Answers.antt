@@ -1,6 +1,7 @@
-use Rattle.std.proofs.Common.{ℕ, ◌+◌, ◌∙◌, ap, is_some, refl, arith, rules, subst, sym}
+use Rattle.std.proofs.Common.{ℕ, ◌+◌, ◌<◌, ◌∙◌, ap, is_some, length, refl, arith, rules, subst, sym}
 use Rattle.o2_place.specs.Layout.{used}
 use Rattle.o2_store.specs.Leaving.{LeaveFor}
+use Rattle.o2_store.specs.Victims.{TakesNext}
 use Rattle.o2_store.specs.Shelf.{Shelf, entry, rounded}
 use Rattle.o2_store.proofs.Departing.{leave_behind, leave_still}
 use Rattle.o2_store.proofs.Keeping.{keeps_refl, keeps_trans, same_tables, tables_trans, keeps_later}
@@ -8,6 +9,7 @@ use Rattle.o2_store.proofs.Choosing.{same_named, same_wanted}
 use Rattle.o2_service.proofs.Among.{live_same, loads_after}
 use Rattle.o2_service.proofs.Movings.{follows_refl, follows_trans}
 use Rattle.o2_store.proofs.Framing.{device_behind}
+use Rattle.o2_service.proofs.Turns.{taken_all, taken_next, taken_nobody}
 use Rattle.o2_service.proofs.bringing.make_room.Goals as goal
 
 pub loop-id-init : goal.loop-id-init
@@ -23,7 +25,8 @@ loop-id-init g c = record {
   none = λ k n. n;
   still = λ k p. refl;
   unasked = refl;
-  pile = refl;
+  piles = λ k l n. refl;
+  taken = taken_nobody c.args.id.key c.args.keep.now _ c.args.store.now;
   leave = leave_still c.args.store.now c.args.store.now _ refl;
   idle = λ l. (refl, refl);
   entry = refl;
@@ -52,6 +55,7 @@ loop-id-preserved g c =
     let s = c.args.store.now in
     let t = c.loop-id.store in
     let u = v.new.store in
+    let within : (k : ℕ) → k < length s.entries → k < length t.entries = λ k l. (let n = i.tables.count in omega (arith, n, l)) in
     record {
       keeps = λ pic q. keeps_trans told pic s t u a b d (keeps_later (S.told c.loop-id.swap) told pic s t a b e.device.told (i.keeps pic q)) (e.keeps pic (i.clean pic q));
       clean = λ pic q. e.clean pic (i.clean pic q);
@@ -63,8 +67,9 @@ loop-id-preserved g c =
       kept = λ k n. e.kept k (same_named s t c.args.keep.now k i.tables ∙ n) ∙ i.kept k n;
       none = λ k n. e.none k (i.none k n);
       unasked = e.unasked ∙ i.unasked;
-      pile = e.pile ∙ i.pile;
+      piles = λ k l n. e.piles k (within k l) (i.none k n) ∙ i.piles k l n;
       still = λ k p. (let a = e.still k p in a ∙ i.still k (sym (ap is_some a) ∙ p));
+      taken = taken_next c.args.id.key c.args.keep.now _ s t u i.taken (subst (λ (n : ℕ). TakesNext c.args.id.key c.args.keep.now n t u) (ap rounded (i.tables.same c.args.id.key).size) (e.next (search rules)));
       leave = leave_behind s t u _ i.tables e.tables.size i.none e.none i.leave (subst (λ (n : ℕ). LeaveFor t u n) (ap rounded (i.tables.same c.args.id.key).size) e.leave);
       idle = λ l. absurd
           (let w = ap (λ (x : Shelf). used x.places.ranges + rounded (entry x c.args.id.key).size) (i.idle l).0 in
@@ -87,6 +92,7 @@ returns-then-not-matches g c =
     let s = c.args.store.now in
     let t = c.loop-id.store in
     let u = v.new.store in
+    let within : (k : ℕ) → k < length s.entries → k < length t.entries = λ k l. (let n = i.tables.count in omega (arith, n, l)) in
     record {
       keeps = λ pic q. keeps_trans told pic s t u a b d (keeps_later (S.told c.loop-id.swap) told pic s t a b e.device.told (i.keeps pic q)) (e.keeps pic (i.clean pic q));
       clean = λ pic q. e.clean pic (i.clean pic q);
@@ -97,8 +103,9 @@ returns-then-not-matches g c =
       kept = λ k n. e.kept k (same_named s t c.args.keep.now k i.tables ∙ n) ∙ i.kept k n;
       none = λ k n. e.none k (i.none k n);
       unasked = e.unasked ∙ i.unasked;
-      pile = e.pile ∙ i.pile;
+      piles = λ k l n. e.piles k (within k l) (i.none k n) ∙ i.piles k l n;
       still = λ k p. (let a = e.still k p in a ∙ i.still k (sym (ap is_some a) ∙ p));
+      turns = taken_all c.args.id.key c.args.keep.now _ s t u i.taken (λ k n. ap is_some (e.stays (search rules) k));
       leave = leave_behind s t u _ i.tables e.tables.size i.none e.none i.leave (subst (λ (n : ℕ). LeaveFor t u n) (ap rounded (i.tables.same c.args.id.key).size) e.leave);
       entry = e.entry ∙ i.entry;
       room = search rules;
@@ -110,3 +117,6 @@ returns-then-not-matches g c =
           omega (arith, w, z, l, c.lacks_room.ensures));
       never = e.never;
     }
+
+pub returns-clause-turns : goal.returns-clause-turns
+returns-clause-turns g c = taken_all c.args.id.key c.args.keep.now _ c.args.store.now c.loop-id.store c.loop-id.store c.loop-id.invariant.taken (λ k n. refl)

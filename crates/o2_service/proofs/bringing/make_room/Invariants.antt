@@ -1,4 +1,4 @@
-use Rattle.std.proofs.Common.{◌≡◌, ◌+◌, ◌≤◌, ℕ, length, None, true, IsSome, IsTrue}
+use Rattle.std.proofs.Common.{◌≡◌, ◌+◌, ◌<◌, ◌≤◌, ℕ, length, None, true, IsSome, IsTrue}
 use Rattle.o2_entries.specs.Tables.{slot_at}
 use Rattle.o2_swapmap.specs.Piles.{all_of, blocks_of}
 use Rattle.o2_place.specs.Layout.{used}
@@ -6,6 +6,7 @@ use Rattle.o2_store.specs.Leaving.{LeaveFor}
 use Rattle.o2_store.specs.Needs.{named_in}
 use Rattle.o2_store.specs.Shelf.{AreClean, KeepsAll, Pictures, SameTables, entry, place_of, rounded}
 use Rattle.o2_service.specs.Told.{Follows}
+use Rattle.o2_service.proofs.Turns.{HasTaken}
 use Rattle.o2_service.proofs.bringing.make_room.Given as goal
 
 abbrev pub invariant-loop-id : goal.invariant-loop-id
@@ -20,8 +21,9 @@ invariant-loop-id g l = let S = g.S.SwapDevice in record {
   kept : (k : ℕ) → named_in l.initial.store.entries l.keep k ≡ true → place_of l.store k ≡ place_of l.initial.store k;
   none : (k : ℕ) → place_of l.initial.store k ≡ None → place_of l.store k ≡ None;
   unasked : S.asked l.swap ≡ S.asked l.initial.swap;
-  pile : blocks_of l.store.swap l.id.key ≡ blocks_of l.initial.store.swap l.id.key;
+  piles : (k : ℕ) → k < length l.initial.store.entries → place_of l.initial.store k ≡ None → blocks_of l.store.swap k ≡ blocks_of l.initial.store.swap k;
   still : (k : ℕ) → IsSome (place_of l.store k) → place_of l.store k ≡ place_of l.initial.store k;
+  taken : HasTaken l.id.key l.keep (rounded (entry l.initial.store l.id.key).size) l.initial.store l.store;
   leave : LeaveFor l.initial.store l.store (rounded (entry l.initial.store l.id.key).size);
   idle : used l.initial.store.places.ranges + rounded (entry l.initial.store l.id.key).size ≤ l.initial.store.places.size → (l.store ≡ l.initial.store) × (l.swap ≡ l.initial.swap);
   entry : slot_at l.store.entries l.id.key ≡ slot_at l.initial.store.entries l.id.key;

@@ -1,13 +1,16 @@
-use Rattle.std.proofs.Common.{◌<◌, ◌∙◌, ℕ, arith, refl, length, get_or}
+use Rattle.std.proofs.Common.{◌≡◌, ◌<◌, ◌∙◌, ℕ, IsSome, arith, refl, length, get_or, true}
 use Rattle.std.proofs.lemmas.Option.{slice_get-get_or}
 use Rattle.o2_place.specs.declared.seg_id.SegId.{SegId}
 use Rattle.o2_store.specs.Pictures.{picture}
 use Rattle.o2_store.proofs.Departing.{leave_still}
 use Rattle.o2_store.proofs.Keeping.{keeps_refl, keeps_trans, tables_trans, locked_stay, keeps_later}
 use Rattle.o2_store.proofs.Loads.{same_live_load}
+use Rattle.o2_store.specs.Shelf.{place_of}
+use Rattle.o2_service.specs.Needs.{needs}
 use Rattle.o2_service.proofs.Among.{all_live_same, all_whole_same, loads_after, needs_at, only_refl, only_trans, present_more, same_needed, stays_refl, stays_trans}
 use Rattle.o2_service.proofs.Departed.{leave_needs}
 use Rattle.o2_service.proofs.Movings.{follows_refl, follows_trans}
+use Rattle.o2_service.proofs.Reading.{asked_next, asked_nothing, for_needed, waits_first, waits_next}
 use Rattle.o2_store.proofs.Framing.{device_behind}
 use Rattle.o2_service.proofs.serving.bring_all.Goals as goal
 
@@ -28,6 +31,8 @@ loop-k-init g c = record {
   fits = c.requires.fits;
   follows = follows_refl c.args.store.now c.args.regions.now c.requires.held c.requires.settled;
   idle = λ none load. record { device = refl; none = none };
+  waits = waits_first c.args.store.now c.args.need.now;
+  asked = asked_nothing c.args.store.now c.args.need.now _ _ _ refl;
   faults = omega arith;
 }
 
@@ -65,6 +70,12 @@ returns-in_default g c =
     let u = c.bring_one.new.store in
     let i = c.loop-k.invariant in
     let e = c.bring_one.ensures in
+    let k = c.loop-k.k in
+    let d : SegId × ℕ = (record { key = 0; age = 0 }, 0) in
+    let l : k < length need = rw c.pairs-pairs.ensures.pairs at c.loop-k-test.true in
+    let among : needs need (get_or need k d).0.key ≡ true = needs_at need k (get_or need k d) (slice_get-get_or need k d l) in
+    let asks = rw c.pairs-pairs.ensures.pairs at e.asks in
+    let unasked = rw c.pairs-pairs.ensures.pairs at e.unasked in
     record {
       keeps = keeps_trans (S.told c.bring_one.new.swap) pic s t u (S.block c.args.swap.now) (S.block c.loop-k.swap) (S.block c.bring_one.new.swap)
           (keeps_later (S.told c.loop-k.swap) (S.told c.bring_one.new.swap) pic s t (S.block c.args.swap.now) (S.block c.loop-k.swap) e.device.told i.keeps) e.keeps;
@@ -75,6 +86,7 @@ returns-in_default g c =
       stays = stays_trans need s t u i.stays e.stays;
       only = only_trans need s t u i.only e.only;
       locked = locked_stay s u c.law-in_default.ensures.shelf (tables_trans s t u i.keeps.tables e.keeps.tables);
+      asks = for_needed s need _ _ _ (asked_next s t need (λ k. Unit {0}) (get_or need k d).0.key _ _ _ _ _ c.law.ensures.once among i.waits (λ n m o. tt) tt i.asked asks unasked);
       leave = λ q. absurd (c.in_default.not-Here q);
       here = λ q. absurd (c.in_default.not-Here q);
       never = e.never;
@@ -101,6 +113,9 @@ loop-k-preserved g c =
     let l : k < length need = rw c.pairs-pairs.ensures.pairs at c.loop-k-test.true in
     let q = e.keeps.tables in
     let n = same_needed t u need q in
+    let among : needs need (get_or need k d).0.key ≡ true = needs_at need k (get_or need k d) (slice_get-get_or need k d l) in
+    let asks = rw c.pairs-pairs.ensures.pairs at e.asks in
+    let unasked = rw c.pairs-pairs.ensures.pairs at e.unasked in
     record {
       keeps = keeps_trans (S.told c.bring_one.new.swap) pic s t u (S.block c.args.swap.now) (S.block c.loop-k.swap) (S.block c.bring_one.new.swap)
           (keeps_later (S.told c.loop-k.swap) (S.told c.bring_one.new.swap) pic s t (S.block c.args.swap.now) (S.block c.loop-k.swap) e.device.told i.keeps) e.keeps;
@@ -122,6 +137,8 @@ loop-k-preserved g c =
           let size = i.keeps.tables.size in
           let now = e.idle before.none (omega (arith, load, size, same_live_load s t i.keeps.tables)) in
           record { device = now.device ∙ before.device; none = now.none });
+      waits = waits_next s t u need i.live e.stays e.piles i.waits;
+      asked = asked_next s t need (λ n. IsSome (place_of u n)) (get_or need k d).0.key _ _ _ _ _ c.law.ensures.once among i.waits (λ n m o. e.stays.each n m o) (rw c.pairs-pairs.ensures.pairs at (e.here c.in-Here.is)) i.asked asks unasked;
       faults = omega (arith, i.faults, e.device.faults);
     }
 

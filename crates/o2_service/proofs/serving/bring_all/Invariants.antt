@@ -1,12 +1,13 @@
-use Rattle.std.proofs.Common.{◌≡◌, ◌≤◌, IsTrue}
+use Rattle.std.proofs.Common.{◌≡◌, ◌≤◌, IsSome, IsTrue}
 use Rattle.o2_swapmap.specs.Piles.{all_of}
 use Rattle.o2_store.specs.Idle.{Idles}
 use Rattle.o2_store.specs.Leaving.{LeaveFor}
 use Rattle.o2_store.specs.Loads.{live_load}
 use Rattle.o2_store.specs.Pictures.{picture, HasPicture}
-use Rattle.o2_store.specs.Shelf.{AreClean, HasAll, KeepsAll}
+use Rattle.o2_store.specs.Shelf.{AreClean, HasAll, KeepsAll, place_of}
 use Rattle.o2_service.specs.Needs.{AreLive, ArePresent, AreWhole, OnlyNeededComes, Stays, all_needed}
 use Rattle.o2_service.specs.Told.{Follows}
+use Rattle.o2_service.proofs.Reading.{HasAsked, Waits}
 use Rattle.o2_service.proofs.serving.bring_all.Given as goal
 
 abbrev pub invariant-loop-k : goal.invariant-loop-k
@@ -28,5 +29,7 @@ invariant-loop-k g l =
       fits : all_needed l.store l.need ≤ l.store.places.size;
       follows : Follows l.initial.regions l.store l.regions;
       idle : Idles (live_load l.initial.store) l.initial.store l.store l.initial.swap l.swap;
+      waits : Waits l.initial.store l.store l.need;
+      asked : HasAsked l.initial.store l.need (λ k. IsSome (place_of l.store k)) (S.asked l.initial.swap) (S.asked l.swap);
       faults : S.faults l.initial.swap ≤ S.faults l.swap;
     }

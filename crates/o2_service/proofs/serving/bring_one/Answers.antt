@@ -1,4 +1,5 @@
-use Rattle.std.proofs.Common.{arith}
+use Rattle.std.proofs.Common.{arith, refl}
+use Rattle.o2_store.proofs.Asking.{asks_behind}
 use Rattle.o2_store.proofs.Departing.{leave_here}
 use Rattle.o2_service.proofs.Among.{only_by, stays_by, wanted_needed}
 use Rattle.o2_service.proofs.serving.bring_one.Goals as goal
@@ -35,3 +36,15 @@ returns-in-NoRoom-clause-never g c = λ e.
 
 pub returns-in-Here-clause-leave : goal.returns-in-Here-clause-leave
 returns-in-Here-clause-leave g c = λ r. leave_here c.args.store.now c.bring.new.store c.args.id.key (c.bring.ensures.here c.in-Here.is) c.bring.ensures.leave
+
+pub returns-in-Here-clause-asks : goal.returns-in-Here-clause-asks
+returns-in-Here-clause-asks g c = λ n. asks_behind _ _ _ _ _ _ _ _ refl refl (λ r. c.in-Here.is) (c.bring.ensures.asks n)
+
+pub returns-in-SwapFull-clause-asks : goal.returns-in-SwapFull-clause-asks
+returns-in-SwapFull-clause-asks g c = λ n. asks_behind _ _ _ _ _ _ _ _ refl refl (λ r. absurd cc) (c.bring.ensures.asks n)
+
+pub returns-in-SwapFault-clause-asks : goal.returns-in-SwapFault-clause-asks
+returns-in-SwapFault-clause-asks g c = λ n. asks_behind _ _ _ _ _ _ _ _ refl refl (λ r. absurd cc) (c.bring.ensures.asks n)
+
+pub returns-in-NoRoom-clause-asks : goal.returns-in-NoRoom-clause-asks
+returns-in-NoRoom-clause-asks g c = λ n. asks_behind _ _ _ _ _ _ _ _ refl refl (λ r. absurd cc) (c.bring.ensures.asks n)

@@ -10,6 +10,7 @@ use Rattle.o2_service.specs.Needs.{AreServed}
 use Rattle.o2_service.proofs.Fitting.{all_present}
 use Rattle.o2_service.proofs.Clocks.{clean_marked, held_learned, keeps_marked, live_marked, locked_marked, needed_marked, only_bits, only_marked, settled_learned, stays_marked, whole_marked}
 use Rattle.o2_service.proofs.Placing.{only_trans}
+use Rattle.o2_service.proofs.Reading.{asks_marked, needs_nothing}
 use Rattle.o2_service.proofs.serving.serve.Goals as goal
 
 pub bring_all-requires : goal.bring_all-requires
@@ -85,3 +86,12 @@ returns-then-not-is_room-clause-same g c = λ a.
 pub returns-clause-same : goal.returns-clause-same
 returns-clause-same g c = λ a.
     absurd (let missing : AreServed c.args.store.now c.args.need.now → ⊥ = rw c.pairs.ensures.pairs at (c.are_here.ensures.missing c.if-are_here.false) in missing a)
+
+pub returns-clause-asks : goal.returns-clause-asks
+returns-clause-asks g c = asks_marked c.args.store.now c.learn.new.store c.args.need.now _ _ c.learn.ensures.learned.rest c.bring_all.ensures.asks
+
+pub returns-then-are_here-clause-asks : goal.returns-then-are_here-clause-asks
+returns-then-are_here-clause-asks g c = needs_nothing _ _ _ _ refl
+
+pub returns-then-not-is_room-clause-asks : goal.returns-then-not-is_room-clause-asks
+returns-then-not-is_room-clause-asks g c = needs_nothing _ _ _ _ refl

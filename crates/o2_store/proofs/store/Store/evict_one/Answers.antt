@@ -1,5 +1,6 @@
 use Rattle.std.proofs.Common.{◌≡◌, ℕ, ◌<◌, ap, subst, rules, Some}
 use Rattle.o2_store.specs.Shelf.{Shelf, place_of, entry, rounded, IsSaved}
+use Rattle.o2_store.specs.Victims.{HasLeft}
 use Rattle.o2_store.proofs.Departing.{leave_one, leave_saved, leave_still}
 use Rattle.o2_store.proofs.Keeping.{keeps_trans, saved_there}
 use Rattle.o2_store.proofs.store.Store.evict_one.Goals as goal
@@ -30,6 +31,7 @@ returns-in_default-save g c = record {
   map = c.save.ensures.map;
   out = search rules;
   used = search rules;
+  left = search rules;
   fewer = search rules;
   keys = search rules;
   stays = search rules;
@@ -52,3 +54,6 @@ pub returns-in-Here-clause-leave : goal.returns-in-Here-clause-leave
 returns-in-Here-clause-leave g c =
     let e = c.let_go-in-Here.ensures in
     λ len l. leave_saved c.args.self.now c.save.new.self c.let_go-in-Here.new.self c.args.key len c.save.ensures.tables (ap (λ (x : Shelf). x.places) c.save.ensures.shelf) c.requires.placed e.places e.frees l
+
+pub returns-in-Here-clause-left : goal.returns-in-Here-clause-left
+returns-in-Here-clause-left g c = λ r. subst (λ (x : Shelf). HasLeft x.turns c.let_go-in-Here.new.self.turns c.args.key) c.save.ensures.shelf c.let_go-in-Here.ensures.left

@@ -37,3 +37,6 @@ returns-clause-frees c =
     let s : Shelf = record { memory = i.phys; places = i.places; turns = i.clock; swap = i.swap; entries = i.entries; made = i.made; keys = i.keys.items } in
     let h = c.self.invariant.0 in
     rw (← c.self.view_is) (frees s c.take.new.self c.args.key c.take.result h (rw (← c.self.view_is) at c.requires.placed) c.take.ensures.was c.take.ensures.used)
+
+pub returns-clause-left : goal.returns-clause-left
+returns-clause-left c = rw (← c.self.view_is) (record { marks = c.leave.ensures.marks; ahead = c.leave.ensures.ahead })
