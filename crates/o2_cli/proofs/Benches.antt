@@ -32,7 +32,7 @@ pub fails_bench : (count : ℕ) (s : Session) (blocks : ℕ) (i c r q : Option (
 fails_bench count s blocks i c r q e k before now status.SinkFault f = λ input left. record {
   start = start_of s input f.0.built;
   starts = has_started s input f.0.built f.0.starts;
-  runs = InRun (record { written = record { bytes = []; pieces = 0 }; run = in_opening s f.0.built input i (Some []) r q left f.0.to_report 0 before now f.1 f.2 })
+  runs = InRun (record { written = record { bytes = []; pieces = 0 }; run = in_opening s f.0.built input i (Some []) r q left f.0.to_report 0 before now f.1 })
       (record { same = refl; none_put = refl });
 }
 fails_bench count s blocks i c r q e k before now status.NoMemory f = record { input = refl; console = refl; report = f }

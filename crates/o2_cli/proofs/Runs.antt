@@ -1,5 +1,5 @@
 -- The run of a session, by what its machine began with.
-use Rattle.std.proofs.Common.{inr, ◌⊎◌, ◌≡◌, ◌≤◌, ℕ, ◌+◌, arith, length, List, Option, Some, ap, sym, ◌∙◌, refl, append-nil, inl, subst}
+use Rattle.std.proofs.Common.{inr, ◌⊎◌, ◌≡◌, ℕ, ◌+◌, arith, length, List, Option, Some, ap, sym, ◌∙◌, refl, append-nil, inl, subst}
 use Rattle.std.specs.Prelude.{Result, Ok, Err, String, min}
 use Rattle.std.specs.declared.alloc.Global.{Global}
 use Rattle.o2_base.specs.declared.faults.ModuleFault.{ModuleFault}
@@ -15,7 +15,7 @@ use Rattle.o2_run.specs.declared.steps.Stop.{Stop}
 use Rattle.o2_run.specs.declared.steps.Stop.TheVariants.{Input, NoRoom, SwapFull, SwapFault}
 use Rattle.o2_run.specs.declared.fault.Fault.{Fault}
 use Rattle.o2_run.specs.declared.fault.Fault.TheVariants.{Sink, Stopped}
-use Rattle.o2_run.specs.Pieces.{Counts, counts}
+use Rattle.o2_run.specs.Pieces.{Counts, FailsInLine, counts}
 use Rattle.o2_run.specs.Ended.{HasPartRun, HasTexts}
 use Rattle.o2_run.proofs.Reached.{part_from, stopped_from}
 use Rattle.o2_conf.specs.declared.conf.Conf.{Conf}
@@ -59,17 +59,17 @@ stands_over m l c count r q begun blocks is block input = begun.stands blocks (a
 pub nothing_yet : (s : Session) (b : Built) (input : List ℕ) (c : Option (List ℕ)) → Gains c c (console (first_world s.linked s.conf input b))
 nothing_yet s b input c = λ t e. e ∙ ap Some (sym (append-nil t))
 
-no_more : (x y n : ℕ) → y ≤ x + n → y + 0 ≤ x + n
-no_more x y n h = omega (arith, h)
-
 -- a sink failed in the opening
-pub in_opening : (s : Session) (b : Built) (input : List ℕ) (j c r q : Option (List ℕ)) → j ≡ Some input → GainsSome r q (λ front. IsPrefix front (lines_text b.lines)) → (k x y : ℕ) → x ≤ y → y ≤ x + length b.lines
+pub in_opening : (s : Session) (b : Built) (input : List ℕ) (j c r q : Option (List ℕ)) → j ≡ Some input → GainsSome r q (λ front. IsPrefix front (lines_text b.lines)) → (k x y : ℕ) → FailsInLine b.lines r q x y
     → HasPartRun machine_swaps (setting_of s.conf) (first_world s.linked s.conf input b) j c c r q (counts k k x y 0)
-in_opening s b input j c r q left g k x y least most = record {
+in_opening s b input j c r q left g k x y f = record {
   texts = InOpening (λ t e. e ∙ ap Some (sym (append-nil t))) g;
   room = tt;
   input = left;
-  hands = record { to_console = omega arith; at_least = omega (arith, least); at_most = no_more x y (length b.lines) most };
+  hands = record {
+    to_console = refl;
+    in_line = record { whole = f.whole; failed = f.failed; rest = f.rest; splits = f.splits; to_report = f.to_report; puts = omega (arith, f.puts) };
+  };
 }
 
 -- what a session's run shows where it has no first step
@@ -78,7 +78,7 @@ pub fails_run : (s : Session) (blocks : ℕ) (i c r q : Option (List ℕ)) (e : 
 fails_run s blocks i c r q e k before now status.SinkFault f = λ input left. record {
   start = start_of s input f.0.built;
   starts = has_started s input f.0.built f.0.starts;
-  runs = in_opening s f.0.built input i c r q left f.0.to_report k before now f.1 f.2;
+  runs = in_opening s f.0.built input i c r q left f.0.to_report k before now f.1;
 }
 fails_run s blocks i c r q e k before now status.NoMemory f = record { input = refl; console = refl; report = f }
 fails_run s blocks i c r q e k before now (status.BadModule name fault) f = record { input = refl; console = refl; report = f }

@@ -1,7 +1,7 @@
 -- What the run of a session comes to.
-use Rattle.std.specs.Prelude.{◌≡◌, ◌≤◌, ◌+◌, ℕ, List, length, Option, Some, Err}
+use Rattle.std.specs.Prelude.{◌≡◌, ℕ, List, Option, Some, Err}
 use Rattle.o2_words.specs.declared.words.Verb.{Verb}
-use Rattle.o2_run.specs.Pieces.{Counts}
+use Rattle.o2_run.specs.Pieces.{Counts, FailsInLine}
 use Rattle.o2_run.specs.declared.steps.Stop.{Stop}
 use Rattle.o2_run.specs.declared.steps.Stop.TheVariants.{Input, NoRoom, SwapFull, SwapFault}
 use Rattle.o2_machine.specs.Begins.{HasBegunInPart}
@@ -31,9 +31,9 @@ ShowsRun verb s blocks i j c d r q e n status.NoMemory = IsUntouched i j c d r q
 ShowsRun verb s blocks i j c d r q e n (status.BadModule name fault) = IsUntouched i j c d r q
 ShowsRun verb s blocks i j c d r q e n _ = ⊥
 
--- where it has no first step: a front of the starts' lines is put, or nothing; the report was handed as many pieces
+-- where it has no first step: of the starts' lines those in front of the one that failed were put whole, and none behind it, or nothing was
 abbrev pub FailsToBegin : Session → (report_old report_new : Option (List ℕ)) → (before now : ℕ) → Status → Type 0
-FailsToBegin s r q before now status.SinkFault = (part : HasBegunInPart s.linked s.conf r q) × (before ≤ now) × (now ≤ before + length part.built.lines)
+FailsToBegin s r q before now status.SinkFault = (part : HasBegunInPart s.linked s.conf r q) × FailsInLine part.built.lines r q before now
 FailsToBegin s r q before now status.NoMemory = q ≡ r
 FailsToBegin s r q before now (status.BadModule name fault) = q ≡ r
 FailsToBegin s r q before now _ = ⊥

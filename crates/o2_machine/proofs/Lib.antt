@@ -7,6 +7,6 @@ pub mod StartLines
 pub mod Devices
 pub mod FirstStands
 pub mod Hands
-pub mod StartPuts
+pub mod PutLines
 pub mod Slicing
 pub mod Reaching

@@ -1,13 +1,14 @@
 -- How a machine begins.
-use Rattle.std.specs.Prelude.{◌≡◌, ◌≤◌, ℕ, ◌+◌, List, Option, None, Result, Ok, Err, min}
+use Rattle.std.specs.Prelude.{◌≡◌, ◌≤◌, ℕ, ◌+◌, List, length, Option, None, Result, Ok, Err, min}
 use Rattle.o2_base.specs.declared.faults.ModuleFault.{ModuleFault}
 use Rattle.o2_conf.specs.declared.conf.Conf.{Conf}
 pub use Rattle.o2_dynlink.specs.Linking.{IsLinked}
 use Rattle.o2_dynlink.specs.Outcome.{LinkedParts}
 use Rattle.o2_outer.specs.Texts.{Gains, GainsSome, IsPrefix}
 use Rattle.o2_store.specs.Idle.{NoneTaken}
-use Rattle.o2_world.specs.World.{World, Setting}
+use Rattle.o2_world.specs.World.{Line, World, Setting}
 use Rattle.o2_world.specs.Text.{lines_text}
+use Rattle.o2_run.specs.Pieces.{FailsInLine}
 use Rattle.o2_world.specs.Starts.{Built, all_started, world_of, opening_of}
 use Rattle.o2_load.specs.Loads.{starts_of, library_ranges}
 use Rattle.o2_machine.specs.declared.fault.BeginFault.{BeginFault}
@@ -71,9 +72,9 @@ OnUnbegun (Err (begin_fault.Start pid fault)) P = P
 OnUnbegun (Err begin_fault.NoMemory) P = P
 OnUnbegun _ P = Unit {0}
 
--- each line of the starts is one put, and no more are put where one failed
-abbrev pub BeginPuts : (before now lines : ℕ) → Result Machine BeginFault → Type 0
-BeginPuts before now lines (Ok m) = now ≡ before + lines
-BeginPuts before now lines (Err begin_fault.SinkFault) = (before ≤ now) × (now ≤ before + lines)
-BeginPuts before now lines (Err (begin_fault.Start pid fault)) = now ≡ before
-BeginPuts before now lines (Err begin_fault.NoMemory) = now ≡ before
+-- each line of the starts is one put; where one failed, those in front of it were put whole, and none behind it was put
+abbrev pub BeginPuts : List Line → (report_old report_new : Option (List ℕ)) → (before now : ℕ) → Result Machine BeginFault → Type 0
+BeginPuts lines r q before now (Ok m) = now ≡ before + length lines
+BeginPuts lines r q before now (Err begin_fault.SinkFault) = FailsInLine lines r q before now
+BeginPuts lines r q before now (Err (begin_fault.Start pid fault)) = now ≡ before
+BeginPuts lines r q before now (Err begin_fault.NoMemory) = now ≡ before

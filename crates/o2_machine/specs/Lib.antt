@@ -4,5 +4,6 @@ pub mod Steppeds
 pub mod StandsFor
 pub mod Begins
 pub mod Readies
+pub mod PutLines
 pub mod Shown
 pub mod Reaches

@@ -4,9 +4,8 @@ ghost use Rattle.o2_conf.specs.Limits.{IsWithinLimits};
 ghost use Rattle.o2_conf.specs.Environments.{environment_bytes};
 ghost use Rattle.o2_image.specs.ImageList.{Exists};
 ghost use Rattle.o2_outer.specs.Texts.{Rose};
-ghost use Rattle.o2_outer.specs.Answers.{Takes, Puts, OnFailed};
+ghost use Rattle.o2_outer.specs.Answers.{OnFailed};
 ghost use Rattle.o2_swapmap.specs.Piles.{all_of};
-ghost use Rattle.o2_world.specs.Text.{lines_text};
 ghost use Rattle.o2_world.specs.Reach.{IsTold};
 ghost use Rattle.o2_world.specs.Tied.{IsSound};
 ghost use Rattle.o2_world.specs.World.{Setting, World};
@@ -14,11 +13,13 @@ ghost use Rattle.o2_load.specs.Beginnings.{lines_from, program_name};
 ghost use Rattle.o2_world.specs.Starts.{Built};
 ghost use Rattle.o2_opening.specs.Openings.{IsOpened, IsSettingOf, StandsFirst};
 ghost use Rattle.o2_machine.specs.Begins.{Begins, BeginPuts, IsLinked, OnSinkFault, OnUnbegun, opening, opening_in, starting};
+ghost use Rattle.o2_machine.specs.PutLines.{PutsLines};
 ghost use Rattle.o2_machine.specs.Readies.{first_proc, first_schedule};
 ghost use Rattle.o2_store.specs.Idle.{NoneTaken};
 
 use crate::fault::BeginFault;
 use crate::machine::Machine;
+use crate::starts::put_start;
 use o2_base::{Fail, NoMemory};
 use o2_cache::DecodeCache;
 use o2_conf::Conf;
@@ -28,7 +29,7 @@ use o2_image::Images;
 use o2_isa::Cpu;
 use o2_opening::{Opened, open};
 use o2_outer::{Put, Sink};
-use o2_report::{LineBuffer, put_start};
+use o2_report::LineBuffer;
 use o2_sched::Sched;
 use o2_shared::Shared;
 use o2_space::{Proc, Space};
@@ -176,8 +177,8 @@ fn put_starts<R: Sink>(
 ) -> Put
     requires few { length starts.now ≤ 64 }
     requires there { length starts.now ≤ length linked.now.programs }
-    ensures report { Takes (R.taken report.old) (R.taken report.new) (lines_text (lines_from linked.now 1 (map (λ v. v.items) starts.now))) result }
-    ensures puts { Puts (R.puts report.old) (R.puts report.new) (sum_by (λ v. length v.items + 1) starts.now) result }
+    ensures lines { PutsLines (lines_from linked.now 1 (map (λ v. v.items) starts.now))
+        (R.taken report.old) (R.taken report.new) (R.puts report.old) (R.puts report.new) result }
     ensures count { R.faults report.old ≤ R.faults report.new }
     ensures cause { OnFailed result (Rose (R.faults report.old) (R.faults report.new)) }
 {
@@ -214,7 +215,8 @@ fn finish<R: Sink>(
     requires told { (input : List ℕ) (w : World) → opening linked conf.now input ≡ Ok w → IsTold w }
     ensures begins { (b : Built) → starting linked conf.now ≡ Ok b → IsOpened opened linked b
         → Begins linked conf.now blocks (R.taken report.old) (R.taken report.new) result }
-    ensures puts { (b : Built) → IsOpened opened linked b → BeginPuts (R.puts report.old) (R.puts report.new) (length b.lines) result }
+    ensures puts { (b : Built) → IsOpened opened linked b → BeginPuts b.lines
+        (R.taken report.old) (R.taken report.new) (R.puts report.old) (R.puts report.new) result }
     ensures untouched { OnUnbegun result (report.new ≡ report.old) }
     ensures count { R.faults report.old ≤ R.faults report.new }
     ensures cause { OnSinkFault result (Rose (R.faults report.old) (R.faults report.new)) }
@@ -244,8 +246,9 @@ impl Machine {
         requires environments { linked.images.environments ≡ map environment_bytes conf.now.process }
         requires linked { IsLinked conf.now linked }
         ensures begins { Begins linked conf.now blocks (R.taken report.old) (R.taken report.new) result }
-        // Each line of the starts is one put.
-        ensures puts { (b : Built) → starting linked conf.now ≡ Ok b → BeginPuts (R.puts report.old) (R.puts report.new) (length b.lines) result }
+        // Each line of the starts is one put. Where one failed, those in front of it were put whole, and none behind it was put.
+        ensures puts { (b : Built) → starting linked conf.now ≡ Ok b → BeginPuts b.lines
+            (R.taken report.old) (R.taken report.new) (R.puts report.old) (R.puts report.new) result }
         ensures untouched { OnUnbegun result (report.new ≡ report.old) }
         ensures count { R.faults report.old ≤ R.faults report.new }
         ensures cause { OnSinkFault result (Rose (R.faults report.old) (R.faults report.new)) }

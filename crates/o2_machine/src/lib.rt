@@ -8,6 +8,7 @@ mod last;
 mod laws;
 mod machine;
 mod slice;
+mod starts;
 mod turn;
 
 pub use fault::BeginFault;

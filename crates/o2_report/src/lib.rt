@@ -5,7 +5,4 @@ mod line;
 mod lines;
 
 pub use line::LineBuffer;
-pub use lines::{
-    put_holds, put_start, set_calls, set_drops, set_ends, set_exits, set_holds, set_starts,
-    set_traps,
-};
+pub use lines::{set_calls, set_drops, set_ends, set_exits, set_holds, set_starts, set_traps};

@@ -1,13 +1,9 @@
 // The lines of the report.
 ghost use Rattle.std.specs.Prelude.{◌≡◌, ◌≤◌, ◌<◌, ◌+◌, ◌*◌, ◌++◌, length, flat_map};
-ghost use Rattle.o2_outer.specs.Texts.{Rose};
-ghost use Rattle.o2_outer.specs.Answers.{Takes, Puts, OnFailed};
-ghost use Rattle.o2_world.specs.Text.{argument_text, line_text, lines_text};
-ghost use Rattle.o2_world.specs.Opening.{hold_lines, start_lines};
+ghost use Rattle.o2_world.specs.Text.{argument_text, line_text};
 ghost use Rattle.o2_world.specs.World.{Starts, HoldsBy, DropsBy, Calls, Exits, Ends, Traps};
 
 use crate::LineBuffer;
-use o2_outer::{Put, Sink};
 use o2_world::Argument;
 
 /// Adds an argument or a value, behind a blank.
@@ -148,47 +144,4 @@ pub fn set_traps(line: &mut LineBuffer, process: u16, vector: u8, selector: u16,
     line.push_text(b" at ");
     line.push_far(selector, offset);
     line.push_byte(b'\n');
-}
-
-/// Puts the lines of the holds of a process by load, each by a put of its own.
-pub fn put_holds<R: Sink>(
-    line: &mut LineBuffer,
-    process: u16,
-    selectors: &[u16],
-    report: &mut R,
-) -> Put
-    ensures report { Takes (R.taken report.old) (R.taken report.new) (lines_text (hold_lines process selectors.now)) result }
-    ensures puts { Puts (R.puts report.old) (R.puts report.new) (length selectors.now) result }
-    ensures count { R.faults report.old ≤ R.faults report.new }
-    ensures cause { OnFailed result (Rose (R.faults report.old) (R.faults report.new)) }
-{
-    for selector in selectors {
-        set_holds(line, process, *selector, b"load");
-        match report.put(line.as_slice()) {
-            Put::Done => {}
-            Put::Failed => return Put::Failed,
-        }
-    }
-    Put::Done
-}
-
-/// Puts the lines of the start of a process, each by a put of its own.
-pub fn put_start<R: Sink>(
-    line: &mut LineBuffer,
-    process: u16,
-    name: &[u8],
-    selectors: &[u16],
-    report: &mut R,
-) -> Put
-    requires { length name.now ≤ 255 }
-    ensures report { Takes (R.taken report.old) (R.taken report.new) (lines_text (start_lines process name.now selectors.now)) result }
-    ensures puts { Puts (R.puts report.old) (R.puts report.new) (length selectors.now + 1) result }
-    ensures count { R.faults report.old ≤ R.faults report.new }
-    ensures cause { OnFailed result (Rose (R.faults report.old) (R.faults report.new)) }
-{
-    set_starts(line, process, name);
-    match report.put(line.as_slice()) {
-        Put::Failed => Put::Failed,
-        Put::Done => put_holds(line, process, selectors, report),
-    }
 }

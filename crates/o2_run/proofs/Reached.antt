@@ -8,7 +8,7 @@ use Rattle.o2_world.specs.Run.{IsBelowLast, any_lives, after, is_over, last_line
 use Rattle.o2_world.proofs.Words.{done_more, words_less}
 use Rattle.o2_run.specs.Room.{AllFits, Fits}
 use Rattle.o2_run.specs.Turn.{NoWord, StepsOn, StepsInPart, IsClosed, IsClosedInPart, Turns}
-use Rattle.o2_run.specs.Pieces.{Counts, counts, told_counts, Hands, HandsUpTo, FailedHands, FailsBehind, FailsIn, FailsInStep, TurnHands, step_puts, pieces, AmongLines, AtLine, AtPiece, BeforeLines}
+use Rattle.o2_run.specs.Pieces.{Counts, counts, told_counts, Hands, FailedHands, FailsBehind, FailsIn, FailsInOpening, FailsInStep, TurnHands, step_puts, pieces, AmongLines, AtLine, AtPiece, BeforeLines}
 use Rattle.o2_run.specs.Ended.{AllFitRun, FitsBelow, HasReached, HasWholeRun, HasStoppedTexts, HasPartRun, HandsPart, HasTexts}
 use Rattle.o2_run.proofs.FailedLines.{between_behind}
 use Rattle.o2_run.proofs.Behind.{all_done, all_fits_here, failed_there, hands_there, input_same, on_there, over_is, part_there, step_same}
@@ -240,15 +240,18 @@ module _ (c d r q z ahead : ℕ) (put : q ≡ r + ahead) where
   hands_from : (done lines : ℕ) → Hands (counts c d q z ahead) done lines → Hands (counts c d r z 0) done lines
   hands_from done lines h = record { to_console = h.to_console; to_report = omega (arith, put, h.to_report) }
 
-  up_to_from : (done low high : ℕ) → HandsUpTo (counts c d q z ahead) done low high → HandsUpTo (counts c d r z 0) done low high
-  up_to_from done low high h = record { to_console = h.to_console; at_least = omega (arith, put, h.at_least); at_most = omega (arith, put, h.at_most) }
+  opening_from : (lines : List Line) (k l : Option (List ℕ)) → FailsInOpening lines k l (counts c d q z ahead) → FailsInOpening lines k l (counts c d r z 0)
+  opening_from lines k l h = (let f = h.in_line in record {
+    to_console = h.to_console;
+    in_line = record { whole = f.whole; failed = f.failed; rest = f.rest; splits = f.splits; to_report = f.to_report; puts = omega (arith, put, f.puts) };
+  })
 
   behind_from : (pieces : ℕ) (w next : World) (k l : Option (List ℕ)) → FailsBehind pieces w next k l (counts c d q z ahead) → FailsBehind pieces w next k l (counts c d r z 0)
   behind_from pieces w next k l (BeforeLines gains hands) = BeforeLines gains (hands_from pieces (length w.lines) hands)
   behind_from pieces w next k l (AmongLines whole failed rest splits between hands) = AmongLines whole failed rest splits between (hands_from pieces (length (w.lines ++ whole) + 1) hands)
 
   hands_part : (s : Setting) (w : World) (i j k l : Option (List ℕ)) (t : HasPartTexts s w i j k l) → HandsPart s w k l (counts c d q z ahead) t → HandsPart s w k l (counts c d r z 0) t
-  hands_part s w i j k l (InOpening x y) h = up_to_from 0 0 (length w.lines) h
+  hands_part s w i j k l (InOpening x y) h = opening_from w.lines k l h
   hands_part s w i j k l (Between n below x y order) h = behind_from (pieces s w (suc n)) (after s w n) (after s w (suc n)) k l h
   hands_part s w i j k l (AtLastLine n last x y) h = hands_from (pieces s w n) (length (after s w n).lines + 1) h
 

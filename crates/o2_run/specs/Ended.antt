@@ -7,7 +7,7 @@ use Rattle.o2_world.specs.Run.{HasWholeTexts, HasPartTexts, InOpening, Between, 
 use Rattle.o2_run.specs.Room.{AllFits, Fits}
 use Rattle.o2_run.specs.Stops.{stop_line, StopFits, StopsFor}
 use Rattle.o2_run.specs.Faults.{fault_turn}
-use Rattle.o2_run.specs.Pieces.{Counts, FailsBehind, Hands, HandsUpTo, pieces}
+use Rattle.o2_run.specs.Pieces.{Counts, FailsBehind, FailsInOpening, Hands, pieces}
 use Rattle.o2_run.specs.declared.fault.Fault.{Fault}
 use Rattle.o2_run.specs.declared.fault.Fault.TheVariants as fault
 use Rattle.o2_run.specs.declared.steps.Stop.{Stop}
@@ -65,9 +65,9 @@ left_at (InOpening to_console to_report) = 0
 left_at (Between k below to_console to_report in_order) = suc k
 left_at (AtLastLine k last to_console to_report) = k
 
--- the puts of a front, the one that failed among them: in a step those of the lines in front of it, and in the opening at most all
+-- the puts of a front, the one that failed among them: those of the lines in front of it, of a step or of the opening
 abbrev pub HandsPart : (s : Setting) (w : World) {c d : Option (List ℕ)} (r q : Option (List ℕ)) → Counts → HasPartTexts s w c d r q → Type 0
-HandsPart s w r q n (InOpening to_console to_report) = HandsUpTo n 0 0 (length w.lines)
+HandsPart s w r q n (InOpening to_console to_report) = FailsInOpening w.lines r q n
 HandsPart s w r q n (Between k below to_console to_report in_order) = FailsBehind (pieces s w (suc k)) (after s w k) (after s w (suc k)) r q n
 HandsPart s w r q n (AtLastLine k last to_console to_report) = Hands n (pieces s w k) (length (after s w k).lines + 1)
 

@@ -61,6 +61,11 @@ pub record FailsInLine (lines : List Line) (text_old text_new : Option (List ℕ
   pub to_report : GainsBetween text_old text_new (lines_text whole) (lines_text (whole ++ failed ∷ []))
   pub puts : now ≡ before + (length whole + 1)
 
+-- in the opening nothing is put on the console, and one of its lines failed
+pub record FailsInOpening (lines : List Line) (report_old report_new : Option (List ℕ)) (n : Counts) : Type 0 where
+  pub to_console : n.console_new ≡ n.console_old
+  pub in_line : FailsInLine lines report_old report_new n.report_old (n.report_new + n.ahead)
+
 -- a sink failed among so many bytes for the console and these lines: at the piece, behind which no line is put, or at a line behind the
 -- whole piece
 pub data FailsIn (bytes : ℕ) (lines : List Line) (console_old console_new : ℕ) (text_old text_new : Option (List ℕ)) (before now : ℕ) : Type 0 where

@@ -1,4 +1,4 @@
-use Rattle.std.proofs.Common.{ℕ, List, length, subst, ◌∙◌}
+use Rattle.std.proofs.Common.{ℕ, List, subst, ◌∙◌}
 use Rattle.std.specs.Prelude.{Err}
 use Rattle.o2_machine.specs.declared.fault.BeginFault.{BeginFault}
 use Rattle.o2_machine.specs.Begins.{Begins, BeginPuts}
@@ -10,8 +10,8 @@ pub returns-in-Err-SinkFault-clause-failed : goal.returns-in-Err-SinkFault-claus
 returns-in-Err-SinkFault-clause-failed g c =
     let s = c.args.session in
     let part = subst (λ (f : BeginFault). Begins s.linked s.conf c.args.blocks (g.R.Sink.taken c.args.report.now) (g.R.Sink.taken c.begin.new.report) (Err f)) c.in-Err-SinkFault.field-0-is c.in-Err-SinkFault.ensures.begins in
-    let put = subst (λ (f : BeginFault). BeginPuts (g.R.Sink.puts c.args.report.now) (g.R.Sink.puts c.begin.new.report) (length part.built.lines) (Err f)) c.in-Err-SinkFault.field-0-is (c.in-Err-SinkFault.ensures.puts part.built part.starts) in
-    (part, put.0, put.1)
+    let put = subst (λ (f : BeginFault). BeginPuts part.built.lines (g.R.Sink.taken c.args.report.now) (g.R.Sink.taken c.begin.new.report) (g.R.Sink.puts c.args.report.now) (g.R.Sink.puts c.begin.new.report) (Err f)) c.in-Err-SinkFault.field-0-is (c.in-Err-SinkFault.ensures.puts part.built part.starts) in
+    (part, put)
 
 pub returns-in-Err-Start-clause-failed : goal.returns-in-Err-Start-clause-failed
 returns-in-Err-Start-clause-failed g c =

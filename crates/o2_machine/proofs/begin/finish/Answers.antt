@@ -1,12 +1,14 @@
 use Rattle.std.proofs.Common.{◌+◌, List, map, length, sum_by, arith, ap, sym, ◌∙◌, subst}
-use Rattle.o2_outer.specs.Texts.{Gains, GainsSome, IsPrefix}
+use Rattle.o2_outer.specs.Texts.{Gains}
 use Rattle.o2_store.specs.Idle.{NoneTaken}
 use Rattle.o2_store.specs.Shelf.{Shelf}
 use Rattle.o2_world.specs.World.{Line}
 use Rattle.o2_world.specs.Text.{lines_text}
+use Rattle.o2_run.specs.Pieces.{FailsInLine}
 use Rattle.o2_load.specs.Beginnings.{lines_from}
 use Rattle.o2_machine.specs.Readies.{first_proc}
 use Rattle.o2_machine.proofs.FirstStands.{first_goes_on, first_stands, lines_counted, space_of}
+use Rattle.o2_machine.proofs.PutLines.{fails_front}
 use Rattle.o2_machine.proofs.begin.finish.Goals as goal
 
 pub returns-in-Done-clause-begins : goal.returns-in-Done-clause-begins
@@ -29,23 +31,24 @@ returns-in-Done-clause-begins g c = λ b e is.
       images = ap (λ x. x.images) z ∙ c.into_images.ensures.value;
       fresh = c.assemble.ensures.fresh;
       to_report = subst (λ (z : List Line). Gains (g.R.Sink.taken c.args.report.now) (g.R.Sink.taken c.put_starts.new.report) (lines_text z))
-          (ap (λ xs. lines_from l 1 (map (λ v. v.items) xs)) c.deref-3.ensures.value ∙ sym is.lines) c.in-Done.ensures.report;
+          (ap (λ xs. lines_from l 1 (map (λ v. v.items) xs)) c.deref-3.ensures.value ∙ sym is.lines) c.in-Done.ensures.lines.0;
     }
 
 pub returns-in-Done-clause-puts : goal.returns-in-Done-clause-puts
 returns-in-Done-clause-puts g c = λ b is.
-    let size = ap (λ xs. sum_by (λ v. length v.items + 1) xs) c.deref-3.ensures.value ∙ sym (lines_counted (λ v. v.items) c.args.linked 1 _) ∙ ap length (sym is.lines) in
-    omega (arith, c.in-Done.ensures.puts, size)
+    let same = ap (λ xs. lines_from c.args.linked 1 (map (λ v. v.items) xs)) c.deref-3.ensures.value ∙ sym is.lines in
+    omega (arith, c.in-Done.ensures.lines.1, ap length same)
 
 pub returns-in-Failed-clause-puts : goal.returns-in-Failed-clause-puts
 returns-in-Failed-clause-puts g c = λ b is.
-    let size = ap (λ xs. sum_by (λ v. length v.items + 1) xs) c.deref-3.ensures.value ∙ sym (lines_counted (λ v. v.items) c.args.linked 1 _) ∙ ap length (sym is.lines) in
-    (c.in-Failed.ensures.puts.0, omega (arith, c.in-Failed.ensures.puts.1, size))
+    subst (λ (z : List Line). FailsInLine z (g.R.Sink.taken c.args.report.now) (g.R.Sink.taken c.put_starts.new.report) (g.R.Sink.puts c.args.report.now) (g.R.Sink.puts c.put_starts.new.report))
+    (ap (λ xs. lines_from c.args.linked 1 (map (λ v. v.items) xs)) c.deref-3.ensures.value ∙ sym is.lines) c.in-Failed.ensures.lines
 
 pub returns-in-Failed-clause-begins : goal.returns-in-Failed-clause-begins
 returns-in-Failed-clause-begins g c = λ b e is. record {
   built = b;
   starts = e;
-  to_report = subst (λ (z : List Line). GainsSome (g.R.Sink.taken c.args.report.now) (g.R.Sink.taken c.put_starts.new.report) (λ front. IsPrefix front (lines_text z)))
-      (ap (λ xs. lines_from c.args.linked 1 (map (λ v. v.items) xs)) c.deref-3.ensures.value ∙ sym is.lines) c.in-Failed.ensures.report;
+  to_report = fails_front b.lines _ _ _ _
+      (subst (λ (z : List Line). FailsInLine z (g.R.Sink.taken c.args.report.now) (g.R.Sink.taken c.put_starts.new.report) (g.R.Sink.puts c.args.report.now) (g.R.Sink.puts c.put_starts.new.report))
+      (ap (λ xs. lines_from c.args.linked 1 (map (λ v. v.items) xs)) c.deref-3.ensures.value ∙ sym is.lines) c.in-Failed.ensures.lines);
 }

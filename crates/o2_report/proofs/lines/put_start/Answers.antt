@@ -1,8 +1,0 @@
-use Rattle.o2_outer.proofs.TextLemmas.{puts_front, puts_more}
-use Rattle.o2_report.proofs.lines.put_start.Goals as goal
-
-pub returns-in-Failed-clause-report : goal.returns-in-Failed-clause-report
-returns-in-Failed-clause-report g c = puts_front _ _ _ _ (rw (c.as_slice.ensures, c.set_starts.ensures) at c.in-Failed.ensures.takes)
-
-pub returns-in-Done-clause-report : goal.returns-in-Done-clause-report
-returns-in-Done-clause-report g c = puts_more _ _ _ _ _ _ (rw (c.as_slice.ensures, c.set_starts.ensures) at c.in-Done.ensures.takes) c.put_holds.ensures.report
