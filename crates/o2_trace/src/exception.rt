@@ -1,5 +1,5 @@
 // The exception by which a step ended its process.
-ghost use Rattle.std.specs.Prelude.{◌≡◌, ◌++◌, IfOk, OnOk, string_bytes};
+ghost use Rattle.std.specs.Prelude.{◌≡◌, ◌≢◌, ◌++◌, IfOk, OnOk, None, string_bytes};
 ghost use Rattle.std.specs.Fmt.{decimal};
 ghost use Rattle.o2_tool.specs.Text.{hex4};
 ghost use Rattle.o2_trace.specs.Exceptions.{code_of, exception_text, name_of, numbers_text, place_text, segment_text, selector_of, vector_of};
@@ -50,11 +50,16 @@ fn segments_of(instr: &Instr) -> (Option<Sreg>, Option<Sreg>) {
 
 /// The segment registers by which an instruction may have ended in an exception: that of the stack, or those of its operands. There is
 /// none where the error code is a selector, where LOCK isn't allowed, and where it may have ended so by something else, too.
-fn segments_by(vector: u8, code: u16, instr: &Instr) -> (Option<Sreg>, Option<Sreg>) {
+fn segments_by(vector: u8, code: u16, instr: &Instr) -> (Option<Sreg>, Option<Sreg>)
+    ensures selector { code ≢ 0 → (result.0 ≡ None) × (result.1 ≡ None) }
+{
+    if code != 0 {
+        return (None, None);
+    }
     if vector == 12 {
         return (Some(Sreg::Ss), None);
     }
-    if vector != 13 || code != 0 || instr.lock {
+    if vector != 13 || instr.lock {
         return (None, None);
     }
     segments_of(instr)
@@ -64,6 +69,7 @@ fn segments_by(vector: u8, code: u16, instr: &Instr) -> (Option<Sreg>, Option<Sr
 fn trap(before: &Before, vector: u8, code: u16) -> Exception
     ensures vector { result.vector ≡ vector }
     ensures code { result.code ≡ code }
+    ensures selector { code ≢ 0 → (result.first ≡ None) × (result.second ≡ None) }
 {
     let (first, second) = match spelled(before) {
         Decoded::One(instr, _) => segments_by(vector, code, &instr),
@@ -79,10 +85,12 @@ fn trap(before: &Before, vector: u8, code: u16) -> Exception
 }
 
 /// The exception with this number by which a step ended its process, where the processor answered so to the step: of an instruction with
-/// its error code and its segments; of a service; and that of the trap flag, which comes behind a step that is done.
+/// its error code and its segments, which are named only where the code is no selector; of a service; and that of the trap flag, which
+/// comes behind a step that is done.
 pub fn exception_of(before: &Before, number: u16, answer: Outcome) -> Exception
     ensures vector { result.vector ≡ vector_of number answer }
     ensures code { result.code ≡ code_of answer }
+    ensures selector { code_of answer ≢ 0 → (result.first ≡ None) × (result.second ≡ None) }
 {
     let place = match answer {
         Outcome::Trap(vector, code) => return trap(before, vector, code),
