@@ -15,7 +15,7 @@
 //! | `modules` | 1 to 64 file names of 1 to 255 bytes |
 //! | `process` | 1 to 64 tables with `module`, a name of 1 to 255 bytes, and, if wanted, `arguments`, a string, and `environment`, an array of strings; the environment segment has at most 65,536 bytes |
 //! | `ordinals` | a table of service names with their ordinals, 1 to 65,535, no ordinal twice; the table of services where it is absent |
-//! | `script` | at most 100,000 words `P:N`, process P from 1 to 65,535 and N steps from 1 to 4,000,000,000, in decimal without leading zeros; none where it is absent |
+//! | `script` | at most 100,000 words; each is `discard`, or `P:N`, process P from 1 to 65,535 and N steps from 1 to 4,000,000,000, in decimal without leading zeros; none where it is absent |
 //! | `shim` | the name of a library, 1 to 255 bytes, that answers for DOSCALLS where the services don't; none where it is absent |
 #![tactic(auto)]
 
